@@ -1,0 +1,72 @@
+-- The cells of a pool, by name, and the plain list of what they store.
+use Prim.Native.Nat.{ℕ, zero, suc, _+_, _*_, _-_, _/_}
+use mathlib.Core.Bool.{Bool, cond, _&&_}
+use mathlib.Core.List.{List, [], _∷_}
+use lib.Dec.{eqb}
+use lib.ListN.{length, getD}
+use Rattle.rule.specs.declared.Pair.{Pair}
+use Rattle.rule.specs.Tree.{Tree, none, fork}
+
+-- how many cells a slot has, and the header
+abbrev pub perSlot : ℕ
+perSlot = 4
+
+-- how many slots a pool of these cells has: the header's cells are none of theirs
+abbrev pub slotsOf : List ℕ → ℕ
+slotsOf c = length c / perSlot - 1
+
+-- cells 0 to 3: the mark, the root slot, the first free slot, the number of pairs
+abbrev pub markOf : List ℕ → ℕ
+markOf c = getD c 0 0
+
+abbrev pub rootOf : List ℕ → ℕ
+rootOf c = getD c 1 0
+
+abbrev pub freeOf : List ℕ → ℕ
+freeOf c = getD c 2 0
+
+abbrev pub countOf : List ℕ → ℕ
+countOf c = getD c 3 0
+
+-- the cells of slot s: x, y, left, right
+abbrev pub pairAt : List ℕ → ℕ → Pair
+pairAt c s = record { x = getD c (s * perSlot) 0; y = getD c (s * perSlot + 1) 0 }
+
+abbrev pub leftAt : List ℕ → ℕ → ℕ
+leftAt c s = getD c (s * perSlot + 2) 0
+
+abbrev pub rightAt : List ℕ → ℕ → ℕ
+rightAt c s = getD c (s * perSlot + 3) 0
+
+-- what a free slot has for its left link
+abbrev pub freeMark : ℕ
+freeMark = 4294967295
+
+-- a free slot holds 0, 0, 4294967295, next
+unfoldable pub isFree : List ℕ → ℕ → Bool
+isFree c s = eqb (pairAt c s .x) 0 && eqb (pairAt c s .y) 0 && eqb (leftAt c s) freeMark
+
+-- the pairs of so many slots from slot s on, but for those in the free form
+unfoldable pub storedFrom : List ℕ → ℕ → ℕ → List Pair
+storedFrom c zero s = []
+storedFrom c (suc k) s = let rest = storedFrom c k (suc s) in cond (isFree c s) rest (pairAt c s ∷ rest)
+
+-- the stored pairs: those of slots 1, 2, .. n
+abbrev pub stored : List ℕ → List Pair
+stored c = storedFrom c (slotsOf c) 1
+
+-- the tree that a link leads to, read so many levels down
+unfoldable pub treeAt : List ℕ → ℕ → ℕ → Tree Pair
+treeAt c zero s = none
+treeAt c (suc k) s =
+    let t : Tree Pair = fork s (pairAt c s) (treeAt c k (leftAt c s)) (treeAt c k (rightAt c s)) in
+    cond (eqb s 0) none t
+
+-- a fresh pool of n slots: all chained as free in ascending order
+unfoldable pub freeSlots : ℕ → ℕ → List ℕ
+freeSlots s zero = []
+freeSlots s (suc zero) = 0 ∷ 0 ∷ freeMark ∷ 0 ∷ []
+freeSlots s (suc (suc k)) = 0 ∷ 0 ∷ freeMark ∷ suc s ∷ freeSlots (suc s) (suc k)
+
+unfoldable pub fresh : ℕ → List ℕ
+fresh n = 1 ∷ 0 ∷ 1 ∷ 0 ∷ freeSlots 1 n

@@ -1,0 +1,58 @@
+-- A book as a plain list of pairs, gone through from top to bottom: what each question finds. Nothing of the tree stands here.
+use Prim.Native.Nat.{ℕ}
+use mathlib.Core.Bool.{Bool, cond, _&&_}
+use mathlib.Core.List.{List, [], _∷_}
+use lib.Dec.{ltb, leb}
+use Rattle.rule.specs.declared.Pair.{Pair}
+use Rattle.rule.specs.declared.Limits.{Limits}
+use Rattle.rule.specs.declared.Finding.{Finding}
+use Rattle.rule.specs.declared.Finding.the-variants.{Found, Nothing}
+use Rattle.rule.specs.Pairs.{beats}
+
+-- x0 ≤ x ≤ x1
+abbrev pub inRange : ℕ → ℕ → Pair → Bool
+inRange x0 x1 p = leb x0 (p .x) && leb (p .x) x1
+
+-- x0 ≤ x ≤ x1 and y ≤ y1
+abbrev pub matches : Limits → Pair → Bool
+matches q p = inRange (q .x0) (q .x1) p && leb (p .y) (q .y1)
+
+-- the pair, where it is one that is asked for
+abbrev pub own : (Pair → Bool) → Pair → Finding
+own ok p = cond (ok p) (Found p) Nothing
+
+-- of two findings the first, unless the second is closer to what is asked
+abbrev pub closest : (Pair → Pair → Bool) → Finding → Finding → Finding
+closest closer Nothing g = g
+closest closer (Found p) Nothing = Found p
+closest closer (Found p) (Found q) = cond (closer q p) (Found q) (Found p)
+
+-- from the list's top to its bottom, the closest so far
+abbrev pub scan : (Pair → Bool) → (Pair → Pair → Bool) → Finding → List Pair → Finding
+scan ok closer f [] = f
+scan ok closer f (p ∷ ps) = scan ok closer (closest closer f (own ok p)) ps
+
+-- the first has the smaller x
+abbrev pub smaller : Pair → Pair → Bool
+smaller p q = ltb (p .x) (q .x)
+
+-- the first has the larger x
+abbrev pub larger : Pair → Pair → Bool
+larger p q = ltb (q .x) (p .x)
+
+-- of the pairs that match, the one with the smallest x
+unfoldable pub smallestXOf : Limits → List Pair → Finding
+smallestXOf q ps = scan (matches q) smaller Nothing ps
+
+-- of the pairs that match, the one with the largest x
+unfoldable pub largestXOf : Limits → List Pair → Finding
+largestXOf q ps = scan (matches q) larger Nothing ps
+
+-- of the pairs with x0 ≤ x ≤ x1, the one with the smallest y; on equal y the one with the smaller x
+unfoldable pub smallestYOf : ℕ → ℕ → List Pair → Finding
+smallestYOf x0 x1 ps = scan (inRange x0 x1) beats Nothing ps
+
+-- the pairs for which a test holds, in the list's order
+abbrev pub those : (Pair → Bool) → List Pair → List Pair
+those ok [] = []
+those ok (p ∷ ps) = let rest = those ok ps in cond (ok p) (p ∷ rest) rest

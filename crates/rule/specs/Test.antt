@@ -1,0 +1,56 @@
+-- The soundness of a pool as a test that is worked out: true exactly where `Sound` holds (proofs/Decided.antt).
+use Prim.Native.Nat.{ℕ, zero, suc, _+_, _*_, _-_}
+use mathlib.Core.Bool.{Bool, true, false, cond, not, _&&_, _||_}
+use mathlib.Core.List.{List}
+use lib.Dec.{leb, eqb}
+use lib.ListN.{length}
+use Rattle.rule.specs.declared.Pair.{Pair}
+use Rattle.rule.specs.Pairs.{beats}
+use Rattle.rule.specs.Stripe.{Stripe, rootStripe, holds, leftPart, rightPart}
+use Rattle.rule.specs.Tree.{Tree, size}
+use Rattle.rule.specs.Changes.{met}
+use Rattle.rule.specs.Cells.{perSlot, slotsOf, markOf, rootOf, freeOf, countOf, pairAt, leftAt, rightAt, isFree, treeAt}
+use Rattle.rule.specs.Sound.{allLevels, itself}
+
+-- the length is that of a pool
+unfoldable pub isPool : List ℕ → Bool
+isPool c = eqb (length c) (perSlot * (slotsOf c + 1)) && leb 1 (slotsOf c) && leb (slotsOf c) 4095
+
+-- a son's link is 0, or a slot whose pair the father's beats
+unfoldable pub sonFine : List ℕ → Pair → ℕ → Bool
+sonFine c p s = eqb s 0 || (leb s (slotsOf c) && beats p (pairAt c s))
+
+-- a slot's own tests, before anything below it is looked at
+unfoldable pub slotFine : List ℕ → ℕ → Stripe → Bool
+slotFine c s at = holds at (pairAt c s .x) && sonFine c (pairAt c s) (leftAt c s) && sonFine c (pairAt c s) (rightAt c s)
+
+-- the sons' trees do not hold the slot's x: it could stand only on its own way down
+unfoldable pub alone : ℕ → Stripe → Tree Pair → Tree Pair → Bool
+alone x at l r = not (met itself x (leftPart at) l || met itself x (rightPart at) r)
+
+-- all is fine from a link down, so many levels
+unfoldable pub fine : List ℕ → ℕ → ℕ → Stripe → Bool
+fine c zero s at = eqb s 0
+fine c (suc k) s at =
+    let l : ℕ = leftAt c s in
+    let r : ℕ = rightAt c s in
+    let below : Bool = fine c k l (leftPart at) && fine c k r (rightPart at) && alone (pairAt c s .x) at (treeAt c k l) (treeAt c k r) in
+    let here : Bool = slotFine c s at && below in
+    eqb s 0 || here
+
+-- the chain has exactly so many slots, and then ends
+unfoldable pub chainFine : List ℕ → ℕ → ℕ → Bool
+chainFine c zero s = eqb s 0
+chainFine c (suc k) s =
+    let rest : Bool = chainFine c k (rightAt c s) in
+    leb 1 s && leb s (slotsOf c) && isFree c s && rest
+
+-- the tree's slots and the free ones are all slots
+unfoldable pub restFine : List ℕ → Bool
+restFine c =
+    eqb (size (treeAt c allLevels (rootOf c))) (countOf c) && leb (countOf c) (slotsOf c) && chainFine c (slotsOf c - countOf c) (freeOf c)
+
+-- the test of a pool
+unfoldable pub isSound : List ℕ → Bool
+isSound c =
+    isPool c && eqb (markOf c) 1 && leb (rootOf c) (slotsOf c) && fine c allLevels (rootOf c) rootStripe && restFine c

@@ -1,0 +1,110 @@
+// The types that every crate shares. What they mean is in specs/.
+ghost use mathlib.Core.Path.{_≡_};
+ghost use Rattle.rule.specs.Stripe.{Low, rootStripe, middle, leftPart, rightPart, holds};
+ghost use Rattle.rule.specs.Shape.{stripeOf};
+
+pub mod codes;
+
+// A stored pair. No two stored pairs have the same x.
+pub struct Pair {
+    pub x: u32,
+    pub y: u32,
+}
+
+// The limits of a question, inclusive.
+pub struct Limits {
+    pub x0: u32,
+    pub x1: u32,
+    pub y1: u32,
+}
+
+// The part of the x that a slot owns: from its lower end up to its upper end, which is excluded.
+pub struct Stripe {
+    pub lower: u64,
+    pub upper: u64,
+}
+
+impl Stripe {
+    pub const ROOT_LOWER: u64 = 0;
+
+    pub const ROOT_UPPER: u64 = 4294967296;
+
+    // The levels below the root.
+    pub const LEVELS: u32 = 32;
+
+    pub fn root() -> Stripe
+        ensures { λ r. ⌜ stripeOf r ≡ rootStripe ⌝ }
+    {
+        Stripe {
+            lower: Stripe::ROOT_LOWER,
+            upper: Stripe::ROOT_UPPER,
+        }
+    }
+
+    // Summed in 64 bits: in 32 the sum would wrap at the root.
+    pub fn middle(self) -> u64
+        requires { ⌜ Low (stripeOf self) ⌝ }
+        ensures { λ r. ⌜ r ≡ middle (stripeOf self) ⌝ }
+    {
+        (self.lower + self.upper) / 2
+    }
+
+    pub fn left(self) -> Stripe
+        requires { ⌜ Low (stripeOf self) ⌝ }
+        ensures { λ r. ⌜ stripeOf r ≡ leftPart (stripeOf self) ⌝ }
+    {
+        let m = self.middle();
+        Stripe {
+            lower: self.lower,
+            upper: m,
+        }
+    }
+
+    pub fn right(self) -> Stripe
+        requires { ⌜ Low (stripeOf self) ⌝ }
+        ensures { λ r. ⌜ stripeOf r ≡ rightPart (stripeOf self) ⌝ }
+    {
+        let m = self.middle();
+        Stripe {
+            lower: m,
+            upper: self.upper,
+        }
+    }
+
+    // Whether x lies in the stripe.
+    pub fn holds(self, x: u32) -> bool
+        ensures { λ r. ⌜ r ≡ holds (stripeOf self) x ⌝ }
+    {
+        let wide = x as u64;
+        if wide < self.lower {
+            return false;
+        }
+        wide < self.upper
+    }
+}
+
+// What a search ends with.
+pub enum Finding {
+    Found(Pair),
+    Nothing,
+}
+
+// What a walk ends with, and the tree slots that it visited.
+pub struct Walked {
+    pub finding: Finding,
+    pub visits: u32,
+}
+
+// What a call ends with. A change that is done has listed nothing; `more` says that a match found no room.
+pub enum Outcome {
+    Found(Pair),
+    Nothing,
+    Listed { count: u32, more: bool },
+    Refused(u32),
+}
+
+// The answer of a call: only a found pair carries a pair. The five numbers of each case are in specs/Answer.antt.
+pub struct Answer {
+    pub outcome: Outcome,
+    pub visits: u32,
+}
