@@ -1,13 +1,12 @@
 -- Taking back, slots included: what was put in is taken out, what was taken out is put in. Assumes nothing.
 use Prim.Native.Nat.{ℕ}
 use mathlib.Core.Path.{_≡_, refl}
-use native.Mathlib.Omega.{arith}
 use Rattle.rule.specs.declared.Pair.{Pair}
 use Rattle.rule.specs.Stripe.{Stripe, In}
-use Rattle.rule.specs.Tree.{Tree, none, fork, All, Mem, Tops, free, over, Under, Well}
+use Rattle.rule.specs.Tree.{Tree, none, fork, All, Mem, Tops, Under, Well}
 use Rattle.rule.specs.Changes.{goDown, takeOut}
 use Rattle.rule.proofs.Order.{beats-asym}
-use Rattle.rule.proofs.Trees.{well-in, New}
+use Rattle.rule.proofs.Trees.{New, tops-of}
 use Rattle.rule.proofs.GoDown.{swap, keep, Down, put, go-left, go-right, step, down-view, down-value}
 use Rattle.rule.proofs.TakeOut.{Filled, last, from-left, from-right, Taken, hit, out-left, out-right, all-taken, taken-view, taken-value}
 
@@ -15,10 +14,6 @@ module _ {A : Type 0} (key : A → Pair) where
   -- q stands at the top
   pub data Topped (q : A) : Tree A → Type 0 where
     topped : {i : ℕ} {l r : Tree A} → Topped q (fork i q l r)
-
-  tops-of : (q : Pair) (t : Tree A) → All (λ v. Under q (key v)) t → Tops key q t
-  tops-of q none u = free
-  tops-of q (fork i p l r) u = over (u .0 .beaten)
 
   -- what beats all of a tree goes to its top
   down-topped : {f : ℕ} {s : Stripe} {q : A} {t t′ : Tree A} → Down key f q s t t′ → All (λ v. Under (key q) (key v)) t → Topped q t′
@@ -38,19 +33,19 @@ module _ {A : Type 0} (key : A → Pair) where
     down-filled : {s : Stripe} {q : A} {t t′ : Tree A} → Down key f q s t t′ → All (λ v. Under (key q) (key v)) t → Well key s t → Filled key t′ t f
     down-filled put u w = last
     down-filled (go-left (swap b) j d) u w =
-        raise-left (down-topped d (w .over-left)) (tops-of _ _ (w .over-right)) (down-filled d (w .over-left) (w .left))
+        raise-left (down-topped d (w .over-left)) (tops-of key _ _ (w .over-right)) (down-filled d (w .over-left) (w .left))
     down-filled (go-left (keep b) j d) u w = absurd (beats-asym b (u .0 .beaten))
     down-filled (go-right (swap b) j d) u w =
-        raise-right (down-topped d (w .over-right)) (tops-of _ _ (w .over-left)) (down-filled d (w .over-right) (w .right))
+        raise-right (down-topped d (w .over-right)) (tops-of key _ _ (w .over-left)) (down-filled d (w .over-right) (w .right))
     down-filled (go-right (keep b) j d) u w = absurd (beats-asym b (u .0 .beaten))
 
     pub down-taken : {s : Stripe} {p : A} {t t′ : Tree A} → Down key f p s t t′ → Well key s t → New key (key p .x) t → Taken key p s t′ t f
     down-taken put w e = hit last
     down-taken (go-left (swap b) j d) w e =
-        hit (raise-left (down-topped d (w .over-left)) (tops-of _ _ (w .over-right)) (down-filled d (w .over-left) (w .left)))
+        hit (raise-left (down-topped d (w .over-left)) (tops-of key _ _ (w .over-right)) (down-filled d (w .over-left) (w .left)))
     down-taken (go-left (keep b) j d) w e = out-left (e .0) j (down-taken d (w .left) (e .1))
     down-taken (go-right (swap b) j d) w e =
-        hit (raise-right (down-topped d (w .over-right)) (tops-of _ _ (w .over-left)) (down-filled d (w .over-right) (w .right)))
+        hit (raise-right (down-topped d (w .over-right)) (tops-of key _ _ (w .over-left)) (down-filled d (w .over-right) (w .right)))
     down-taken (go-right (keep b) j d) w e = out-right (e .0) j (down-taken d (w .right) (e .2))
 
   filled-down : {s : Stripe} {i k : ℕ} {p : A} {l r t : Tree A} → Filled key (fork i p l r) t k → Well key s (fork i p l r) → Down key k p s t (fork i p l r)

@@ -6,3 +6,7 @@ pub mod GoDown
 pub mod TakeOut
 pub mod Back
 pub mod Same
+pub mod Clauses
+pub mod Halving
+pub mod Leads
+pub mod Decided

@@ -31,3 +31,9 @@ either false b h = inr h
 pub neither : (a b : Bool) → (a || b) ≡ false → (a ≡ false) × (b ≡ false)
 neither true b h = (h, cc)
 neither false b h = (refl, h)
+
+pub all-three : (a b d : Bool) → (a && b && d) ≡ true → (a ≡ true) × (b ≡ true) × (d ≡ true)
+all-three a b d h = let e = both (a && b) d h in let g = both a b (e .0) in (g .0, g .1, e .1)
+
+pub all-four : (a b d e : Bool) → (a && b && d && e) ≡ true → (a ≡ true) × (b ≡ true) × (d ≡ true) × (e ≡ true)
+all-four a b d e h = let g = both (a && b && d) e h in let k = all-three a b d (g .0) in (k .0, k .1, k .2, g .1)

@@ -1,12 +1,11 @@
 -- What holds of all members of a tree, and what a well-formed tree keeps where. `A` is what a slot holds, and `key` gives its pair. Assumes nothing.
-use Prim.Native.Nat.{ℕ, zero, suc, _+_, _^_, _≤_, _<_}
+use Prim.Native.Nat.{ℕ, _≤_, _<_}
 use mathlib.Core.Path.{_≡_, refl, sym, subst}
 use mathlib.Core.Logic.{_≢_}
 use native.Mathlib.Omega.{arith}
-use native.Mathlib.Nat.{two-pow-succ}
 use Rattle.rule.specs.declared.Pair.{Pair}
 use Rattle.rule.specs.Stripe.{Stripe, In, leftPart, rightPart}
-use Rattle.rule.specs.Tree.{Tree, none, fork, All, Mem, here, in-left, in-right, Under, Well, Within}
+use Rattle.rule.specs.Tree.{Tree, none, fork, All, Mem, here, in-left, in-right, Tops, free, over, Under, Well}
 
 module _ {A : Type 0} where
   pub all-map : {P Q : A → Type 0} → ((q : A) → P q → Q q) → (t : Tree A) → All P t → All Q t
@@ -40,3 +39,8 @@ module _ {A : Type 0} (key : A → Pair) where
 
   pub under-new : (p : Pair) (t : Tree A) → All (λ q. Under p (key q)) t → New (p .x) t
   under-new p t h = all-map (λ q u. u .apart) t h
+
+  -- what stands over a tree beats its top
+  pub tops-of : (p : Pair) (t : Tree A) → All (λ q. Under p (key q)) t → Tops key p t
+  tops-of p none u = free
+  tops-of p (fork i q l r) u = over (u .0 .beaten)

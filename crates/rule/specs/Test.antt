@@ -2,11 +2,11 @@
 use Prim.Native.Nat.{ℕ, zero, suc, _+_, _*_, _-_}
 use mathlib.Core.Bool.{Bool, true, false, cond, not, _&&_, _||_}
 use mathlib.Core.List.{List}
-use lib.Dec.{leb, eqb}
+use lib.Dec.{ltb, leb, eqb}
 use lib.ListN.{length}
 use Rattle.rule.specs.declared.Pair.{Pair}
 use Rattle.rule.specs.Pairs.{beats}
-use Rattle.rule.specs.Stripe.{Stripe, rootStripe, holds, leftPart, rightPart}
+use Rattle.rule.specs.Stripe.{Stripe, rootStripe, holds, middle, leftPart, rightPart}
 use Rattle.rule.specs.Tree.{Tree, size}
 use Rattle.rule.specs.Changes.{met}
 use Rattle.rule.specs.Cells.{perSlot, slotsOf, markOf, rootOf, freeOf, countOf, pairAt, leftAt, rightAt, isFree, treeAt}
@@ -24,9 +24,12 @@ sonFine c p s = eqb s 0 || (leb s (slotsOf c) && beats p (pairAt c s))
 unfoldable pub slotFine : List ℕ → ℕ → Stripe → Bool
 slotFine c s at = holds at (pairAt c s .x) && sonFine c (pairAt c s) (leftAt c s) && sonFine c (pairAt c s) (rightAt c s)
 
--- the sons' trees do not hold the slot's x: it could stand only on its own way down
+-- x is not met below a slot, looked for by halving: it could stand nowhere else
 unfoldable pub alone : ℕ → Stripe → Tree Pair → Tree Pair → Bool
-alone x at l r = not (met itself x (leftPart at) l || met itself x (rightPart at) r)
+alone x at l r =
+    let left = met itself x (leftPart at) l in
+    let right = met itself x (rightPart at) r in
+    not (cond (ltb x (middle at)) left right)
 
 -- all is fine from a link down, so many levels
 unfoldable pub fine : List ℕ → ℕ → ℕ → Stripe → Bool
