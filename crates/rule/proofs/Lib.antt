@@ -10,3 +10,4 @@ pub mod Clauses
 pub mod Halving
 pub mod Leads
 pub mod Decided
+pub mod Fresh

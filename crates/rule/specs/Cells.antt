@@ -1,9 +1,9 @@
 -- The cells of a pool, by name, and the plain list of what they store.
-use Prim.Native.Nat.{ℕ, zero, suc, _+_, _*_, _-_, _/_}
+use Prim.Native.Nat.{ℕ, zero, suc, _+_, _*_, _-_, _/_, _≤_}
 use mathlib.Core.Bool.{Bool, cond, _&&_}
 use mathlib.Core.List.{List, [], _∷_}
 use lib.Dec.{eqb}
-use lib.ListN.{length, getD}
+use lib.ListN.{length, getD, set}
 use Rattle.rule.specs.declared.Pair.{Pair}
 use Rattle.rule.specs.Tree.{Tree, none, fork}
 
@@ -14,6 +14,14 @@ perSlot = 4
 -- how many slots a pool of these cells has: the header's cells are none of theirs
 abbrev pub slotsOf : List ℕ → ℕ
 slotsOf c = length c / perSlot - 1
+
+-- the cells with the header written anew: the mark 1, the root slot, the first free slot, the number of pairs
+abbrev pub putHeader : List ℕ → ℕ → ℕ → ℕ → List ℕ
+putHeader c root free count = set (set (set (set c 0 1) 1 root) 2 free) 3 count
+
+-- all cells of slot s are there
+abbrev pub Fits : List ℕ → ℕ → Type 0
+Fits c s = s * perSlot + perSlot ≤ length c
 
 -- cells 0 to 3: the mark, the root slot, the first free slot, the number of pairs
 abbrev pub markOf : List ℕ → ℕ
@@ -38,11 +46,22 @@ leftAt c s = getD c (s * perSlot + 2) 0
 abbrev pub rightAt : List ℕ → ℕ → ℕ
 rightAt c s = getD c (s * perSlot + 3) 0
 
+-- the cells with slot s written anew: its pair, its links
+abbrev pub putPair : List ℕ → ℕ → Pair → List ℕ
+putPair c s p = set (set c (s * perSlot) (p .x)) (s * perSlot + 1) (p .y)
+
+abbrev pub putLinks : List ℕ → ℕ → ℕ → ℕ → List ℕ
+putLinks c s l r = set (set c (s * perSlot + 2) l) (s * perSlot + 3) r
+
 -- what a free slot has for its left link
 abbrev pub freeMark : ℕ
 freeMark = 4294967295
 
--- a free slot holds 0, 0, 4294967295, next
+-- slot s put into the free form: 0, 0, 4294967295, next
+abbrev pub putFree : List ℕ → ℕ → ℕ → List ℕ
+putFree c s next = putLinks (putPair c s (record { x = 0; y = 0 })) s freeMark next
+
+-- slot s is in the free form
 unfoldable pub isFree : List ℕ → ℕ → Bool
 isFree c s = eqb (pairAt c s .x) 0 && eqb (pairAt c s .y) 0 && eqb (leftAt c s) freeMark
 
@@ -62,11 +81,12 @@ treeAt c (suc k) s =
     let t : Tree Pair = fork s (pairAt c s) (treeAt c k (leftAt c s)) (treeAt c k (rightAt c s)) in
     cond (eqb s 0) none t
 
--- a fresh pool of n slots: all chained as free in ascending order
+-- so many free slots from slot s on: each points to the next, the last to 0
 unfoldable pub freeSlots : ℕ → ℕ → List ℕ
 freeSlots s zero = []
 freeSlots s (suc zero) = 0 ∷ 0 ∷ freeMark ∷ 0 ∷ []
 freeSlots s (suc (suc k)) = 0 ∷ 0 ∷ freeMark ∷ suc s ∷ freeSlots (suc s) (suc k)
 
+-- a fresh pool of n slots: all are chained as free in ascending order
 unfoldable pub fresh : ℕ → List ℕ
 fresh n = 1 ∷ 0 ∷ 1 ∷ 0 ∷ freeSlots 1 n

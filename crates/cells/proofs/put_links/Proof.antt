@@ -1,0 +1,23 @@
+-- The first store keeps the length. Assumes nothing.
+use native.Mathlib.Omega.{arith}
+use lib.ListN.{length-set}
+use borrow.Author.Needs.{needs}
+use Rattle.cells.proofs.put_links.Statement.{statement}
+use Rattle.cells.proofs.put_links.Tie as tie
+
+slice-write-pool-2 : tie.Need-slice-write-pool-2
+slice-write-pool-2 c = simp length-set (omega arith)
+
+pub put-links-spec : {M : Type 1} → statement M
+put-links-spec =
+    tie.close
+    (tie.spec
+    (λ c. search needs)
+    (λ c. search needs)
+    (λ c. search needs)
+    (λ c. search needs)
+    (λ c. search needs)
+    (λ c. search needs)
+    slice-write-pool-2
+    (λ c. search needs)
+    (λ c. search needs))
