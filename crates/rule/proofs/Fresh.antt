@@ -136,8 +136,12 @@ chained c s (suc (suc k)) = chained (putFree c s (suc s)) (suc s) (suc k)
 put-past : (a b : List ℕ) (s v : ℕ) → length a ≡ s * perSlot → perSlot ≤ length b
     → putFree (a ++ b) s v ≡ a ++ set (set (set (set b 0 0) 1 0) 2 freeMark) 3 v
 put-past a b s v n h =
-    rw (set-seam a b (s * perSlot) 0 n, set-past a (set b 0 0) (s * perSlot) 1 0 n, set-past a (set (set b 0 0) 1 0) (s * perSlot) 2 freeMark n,
-    set-past a (set (set (set b 0 0) 1 0) 2 freeMark) (s * perSlot) 3 v n)
+    rw (
+      set-seam a b (s * perSlot) 0 n,
+      set-past a (set b 0 0) (s * perSlot) 1 0 n,
+      set-past a (set (set b 0 0) 1 0) (s * perSlot) 2 freeMark n,
+      set-past a (set (set (set b 0 0) 1 0) 2 freeMark) (s * perSlot) 3 v n,
+    )
 
 put-four : (a b : List ℕ) (s v b0 b1 b2 b3 : ℕ) → length a ≡ s * perSlot → putFree (a ++ (b0 ∷ b1 ∷ b2 ∷ b3 ∷ b)) s v ≡ (a ++ four v) ++ b
 put-four a b s v b0 b1 b2 b3 n = put-past a (b0 ∷ b1 ∷ b2 ∷ b3 ∷ b) s v n (omega arith) ∙ sym (append-assoc a (four v) b)

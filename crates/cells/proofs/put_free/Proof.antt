@@ -5,7 +5,7 @@ use Rattle.cells.proofs.put_free.Statement.{statement}
 use Rattle.cells.proofs.put_free.Tie as tie
 
 returns : tie.Need-returns
-returns c = 
+returns c =
     let p2 = c .before .before in let p6 = p2 .before .before .before .before in
     p2 .put-links .ensures ∙ rw (p6 .put-pair .ensures)
 

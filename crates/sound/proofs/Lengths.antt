@@ -1,0 +1,29 @@
+-- The code's three tests of the length are the definition's. Assumes nothing.
+use Prim.Native.Nat.{ℕ, _+_, _*_, _-_, _/_, _%_, _≤_, _<_}
+use mathlib.Core.Path.{_≡_, sym, _∙_}
+use mathlib.Core.Bool.{Bool, true, false}
+use mathlib.Core.List.{List}
+use native.Mathlib.Omega.{arith}
+use lib.Dec.{leb, eqb}
+use lib.ListN.{length}
+use borrow.Author.Tests.{eq-eqb, ne-eqb, le-leb, lt-leb, leb-true, leb-false}
+use Rattle.rule.specs.Cells.{perSlot, slotsOf}
+use Rattle.rule.specs.Test.{isPool}
+use Rattle.rule.proofs.Tests.{on, and-false}
+
+module _ (c : List ℕ) where
+  pub odd : (length c % perSlot ≡ 0 → ⊥) → false ≡ isPool c
+  unfolding isPool
+  odd h = rw (ne-eqb (length c) (perSlot * (slotsOf c + 1)) (λ e. h (omega arith)))
+
+  pub short : length c < 8 → false ≡ isPool c
+  unfolding isPool
+  short h = rw (and-false (eqb (length c) (perSlot * (slotsOf c + 1))) (leb 1 (slotsOf c)) (lt-leb 1 (slotsOf c) (omega arith)))
+
+  pub long : length c % perSlot ≡ 0 → 8 ≤ length c → leb (length c) 16384 ≡ isPool c
+  unfolding isPool
+  long h k =
+      rw (eq-eqb (length c) (perSlot * (slotsOf c + 1)) (omega arith), le-leb 1 (slotsOf c) (omega arith))
+      (on (leb (length c) 16384)
+      (λ t. t ∙ sym (le-leb (slotsOf c) 4095 (omega (arith, leb-true))))
+      (λ f. f ∙ sym (lt-leb (slotsOf c) 4095 (omega (arith, leb-false)))))

@@ -1,0 +1,19 @@
+-- Each way out is one law. Assumes nothing.
+use Rattle.sound.proofs.Lengths.{odd, short, long}
+use borrow.Author.Needs.{needs}
+use Rattle.sound.proofs.is_pool.Statement.{statement}
+use Rattle.sound.proofs.is_pool.Tie as tie
+
+returns : tie.Need-returns
+returns c = odd _ (c .if1 .taken)
+
+returns-2 : tie.Need-returns-2
+returns-2 c = short _ (c .if2 .taken)
+
+returns-3 : tie.Need-returns-3
+returns-3 c =
+    let p1 = c .before in
+    long _ (p1 .if1 .left) (c .if2 .left)
+
+pub is-pool-spec : {M : Type 1} → statement M
+is-pool-spec = tie.close (tie.spec returns (λ c. search needs) returns-2 (λ c. search needs) (λ c. search needs) returns-3)

@@ -1,0 +1,43 @@
+-- The invariant: what is still to be chained, done, gives what was to be chained at first. Assumes nothing.
+use Prim.Native.Nat.{ℕ, suc, _+_, _*_, _-_, _≤_}
+use mathlib.Core.Path.{_≡_, _∙_}
+use native.Mathlib.Omega.{arith}
+use borrow.Author.Needs.{needs}
+use lib.ListN.{length}
+use Rattle.rule.specs.Cells.{perSlot}
+use Rattle.rule.proofs.Fresh.{chained}
+use Rattle.sound.proofs.Chaining.{turn, last, whole}
+use Rattle.sound.proofs.write_fresh.Statement.{statement}
+use Rattle.sound.proofs.write_fresh.Tie as tie
+
+abbrev Inv-loop : tie.InvT-loop
+Inv-loop pool₀ n slot₀ pool slot =
+    (length pool ≡ perSlot * (n + 1)) × (1 ≤ slot) × (slot ≤ n) × (chained pool slot (suc (n - slot)) ≡ chained pool₀ slot₀ (suc (n - slot₀)))
+
+abbrev μ-loop : tie.MeasureT-loop
+μ-loop pool₀ n slot₀ pool slot = n - slot
+
+loop-again : tie.Need-loop-again Inv-loop μ-loop
+loop-again c = (c .before .before .put-free .kept .0 ∙ c .before .before .before .before .before .loop .inv .0, omega (arith, c .before .before .before .before .before .loop .inv .1), omega (arith, c .before .before .before .before .loop-test .taken), turn _ _ _ _ (c .before .before .before .before .loop-test .taken) (c .before .before .put-free .ensures) ∙ c .before .before .before .before .before .loop .inv .3)
+
+returns : tie.Need-returns Inv-loop μ-loop
+returns c = last _ _ _ _ (omega (arith, c .before .before .before .before .loop-test .left, c .before .before .before .before .before .loop .inv .2)) (c .before .before .put-free2 .ensures) ∙ c .before .before .before .before .before .loop .inv .3 ∙ whole _ _ (c .before .before .before .before .before .before .before .before .before .before .before .pre) (c .before .before .before .before .before .before .before .before .put-header .ensures)
+
+pub write-fresh-spec : {M : Type 1} → statement M
+write-fresh-spec =
+    tie.close
+    (tie.spec
+    Inv-loop
+    μ-loop
+    (λ c. search needs)
+    (λ c. search needs)
+    (λ c κs. search needs)
+    (λ c. search needs)
+    (λ c. search needs)
+    (λ c κs. search needs)
+    (λ c. search needs)
+    (λ c. search needs)
+    loop-again
+    (λ c κs. search needs)
+    (λ c. search needs)
+    returns)

@@ -1,0 +1,79 @@
+// Set up and check: the two calls that accept any cells at all.
+use rule::Answer;
+use rule::Outcome;
+use rule::codes;
+ghost use mathlib.Core.Path.{_≡_};
+ghost use Prim.Native.Nat.{ℕ, suc, _+_, _*_, _-_, _≤_, _<_};
+ghost use lib.ListN.{length};
+ghost use Rattle.rule.specs.Answer.{finished, refused};
+ghost use Rattle.rule.specs.Cells.{perSlot, slotsOf, fresh};
+ghost use Rattle.rule.specs.Refusals.{Leaves};
+ghost use Rattle.rule.specs.Sound.{Pool};
+ghost use Rattle.rule.specs.Test.{isPool};
+ghost use Rattle.sound.specs.Promises.{setUp};
+
+// The answer of a call that is done.
+pub fn finished() -> Answer
+    ensures { λ r. ⌜ r ≡ finished ⌝ }
+{
+    Answer {
+        outcome: Outcome::Listed {
+            count: 0,
+            more: false,
+        },
+        visits: 0,
+    }
+}
+
+// The answer of a call that is refused.
+pub fn refused(code: u32) -> Answer
+    ensures { λ r. ⌜ r ≡ refused code ⌝ }
+{
+    Answer {
+        outcome: Outcome::Refused(code),
+        visits: 0,
+    }
+}
+
+// The most slots that a pool has.
+const MOST: usize = 4095;
+
+// Whether a pool has the length that its slots and header take.
+fn is_pool(pool: &[u32]) -> bool
+    ensures { λ r. ⌜ r ≡ isPool (now (pool .entry)) ⌝ }
+{
+    let len = pool.len();
+    if len % cells::PER_SLOT != 0 {
+        return false;
+    }
+    if len < 2 * cells::PER_SLOT {
+        return false;
+    }
+    len <= (MOST + 1) * cells::PER_SLOT
+}
+
+// Every slot is chained as free, in ascending order.
+fn write_fresh(pool: &mut [u32])
+    requires { ⌜ Pool (now pool) ⌝ }
+    ensures { λ _. ⌜ now (pool .exit) ≡ fresh (slotsOf (now (pool .entry))) ⌝ }
+{
+    let n = (pool.len() / cells::PER_SLOT - 1) as u32;
+    cells::put_header(pool, 0, 1, 0);
+    let mut slot: u32 = 1;
+    while slot < n {
+        cells::put_free(pool, slot, slot + 1);
+        slot += 1;
+    }
+    cells::put_free(pool, slot, 0);
+}
+
+// Lays out a pool with nothing stored, whatever its cells held.
+pub fn set_up(pool: &mut [u32]) -> Answer
+    ensures { λ r. ⌜ Leaves (setUp (now (pool .entry))) (now (pool .exit)) r ⌝ }
+{
+    if is_pool(pool) {
+        write_fresh(pool);
+        return finished();
+    }
+    refused(codes::LENGTH)
+}
