@@ -3,7 +3,7 @@ use rule::Pair;
 ghost use mathlib.Core.Path.{_≡_};
 ghost use Prim.Native.Nat.{_≤_};
 ghost use lib.ListN.{length, set};
-ghost use Rattle.rule.specs.Cells.{Fits, markOf, rootOf, freeOf, countOf, pairAt, leftAt, rightAt, putPair, putLinks, putFree, putHeader};
+ghost use Rattle.rule.specs.Cells.{Fits, markOf, rootOf, freeOf, countOf, pairAt, leftAt, rightAt, sonAt, putPair, putLinks, putFree, putHeader};
 
 pub const PER_SLOT: usize = 4;
 
@@ -63,6 +63,17 @@ pub fn right(pool: &[u32], slot: u32) -> u32
     ensures { λ r. ⌜ r ≡ rightAt (now (pool .entry)) slot ⌝ }
 {
     pool[slot as usize * PER_SLOT + 3]
+}
+
+// The link to the left son, or to the right one.
+pub fn son(pool: &[u32], slot: u32, leftward: bool) -> u32
+    requires { ⌜ Fits (now pool) slot ⌝ }
+    ensures { λ r. ⌜ r ≡ sonAt (now (pool .entry)) slot leftward ⌝ }
+{
+    if leftward {
+        return left(pool, slot);
+    }
+    right(pool, slot)
 }
 
 pub fn put_pair(pool: &mut [u32], slot: u32, p: Pair)

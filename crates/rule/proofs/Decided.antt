@@ -14,8 +14,8 @@ use Rattle.rule.specs.Stripe.{Stripe, In, holds, rootStripe, middle, lef
 use Rattle.rule.specs.Tree.{Tree, none, fork, size, Tops, free, over, Within, Well}
 use Rattle.rule.specs.Changes.{met}
 use Rattle.rule.specs.Cells.{perSlot, slotsOf, markOf, rootOf, freeOf, countOf, pairAt, leftAt, rightAt, freeMark, isFree, treeAt}
-use Rattle.rule.specs.Sound.{Pool, Slot, Leads, nowhere, slot, Free, Chain, ends, next, allLevels, itself, Sound}
-use Rattle.rule.specs.Test.{isPool, sonFine, slotFine, alone, fine, chainFine, restFine, isSound}
+use Rattle.rule.specs.Sound.{Pool, Slot, Leads, nowhere, slot, Free, Chain, ends, next, lowLevels, allLevels, itself, Sound}
+use Rattle.rule.specs.Test.{isPool, slotFine, alone, fine, below, rootFine, freeFine, chainFine, restFine, isSound}
 use Rattle.rule.proofs.Tests.{on, both, and-true, either, all-three, all-four}
 use Rattle.rule.proofs.Order.{beats-true, true-beats}
 use Rattle.rule.proofs.Trees.{all-map, well-in, New, under-new, tops-of}
@@ -60,85 +60,96 @@ new-alone x at l r f g = rw (new-unmet itself x (leftPart at) l f, new-unmet its
     go false = refl
 
 module _ (c : List ℕ) where
-  -- a son that passes its father's test is a slot or none, and beaten
-  son-most : (p : Pair) (s : ℕ) → sonFine c p s ≡ true → s ≤ slotsOf c
-  unfolding sonFine
-  son-most p s h = ⊎-elim (λ e. let z = eqb-true s 0 e in omega arith) (λ e. leb-true _ _ (both (leb s (slotsOf c)) _ e .0)) (either (eqb s 0) _ h)
-
-  son-tops : (k : ℕ) (p : Pair) (s : ℕ) → sonFine c p s ≡ true → Tops itself p (treeAt c k s)
-  unfolding sonFine treeAt
-  son-tops zero p s h = free
-  son-tops (suc k) p s h = on (eqb s 0) (λ e. rw e free)
-      (λ e. let g : (leb s (slotsOf c) && beats p (pairAt c s)) ≡ true = rw e at h in rw e (over (beats-true p (pairAt c s) (both (leb s (slotsOf c)) _ g .1))))
-
-  tops-son : (p : Pair) {s : ℕ} {t : Tree Pair} → Leads c s t → Tops itself p t → sonFine c p s ≡ true
-  unfolding sonFine
-  tops-son p nowhere o = refl
-  tops-son p (slot {s = s} q l r) (over b) = rw (ne-eqb s 0 (λ e. omega (arith, q .some)), le-leb s (slotsOf c) (q .most), true-beats b)
-
   -- what is fine from a link down: the link leads to the tree that is read, and that is well formed
   pub record Fine (s : ℕ) (at : Stripe) (t : Tree Pair) : Type 0 where
     pub leads : Leads c s t
     pub well : Well itself at t
 
-  fine-none : (k s : ℕ) (at : Stripe) → s ≡ 0 → Fine s at (treeAt c k s)
-  fine-none k s at e = rw (tree-none c k s e, e) (record { leads = nowhere; well = tt })
+  pub record Below (p : Pair) (s : ℕ) (at : Stripe) (t : Tree Pair) : Type 0 where
+    pub fine : Fine s at t
+    pub tops : Tops itself p t
 
-  fine-fork : (k s : ℕ) (at : Stripe) → (s ≡ 0 → ⊥) → s ≤ slotsOf c → slotFine c s at ≡ true
-      → (leftAt c s ≤ slotsOf c → Fine (leftAt c s) (leftPart at) (treeAt c k (leftAt c s)))
-      → (rightAt c s ≤ slotsOf c → Fine (rightAt c s) (rightPart at) (treeAt c k (rightAt c s)))
+  fine-none : (k : ℕ) (p : Pair) (s : ℕ) (at : Stripe) → s ≡ 0 → Below p s at (treeAt c k s)
+  fine-none k p s at e = rw (tree-none c k s e, e) (record { fine = record { leads = nowhere; well = tt }; tops = free })
+
+  pub fine-slot : (k s : ℕ) (at : Stripe) → (s ≡ 0 → ⊥) → slotFine c s at ≡ true
+      → Below (pairAt c s) (leftAt c s) (leftPart at) (treeAt c k (leftAt c s))
+      → Below (pairAt c s) (rightAt c s) (rightPart at) (treeAt c k (rightAt c s))
       → alone (pairAt c s .x) at (treeAt c k (leftAt c s)) (treeAt c k (rightAt c s)) ≡ true
-      → Fine s at (treeAt c (suc k) s)
+      → Fine s at (fork s (pairAt c s) (treeAt c k (leftAt c s)) (treeAt c k (rightAt c s)))
   unfolding slotFine
-  fine-fork k s at ne m h L R a =
+  fine-slot k s at ne h l r a =
       let p = pairAt c s in
-      let t = all-three (holds at (p .x)) (sonFine c p (leftAt c s)) (sonFine c p (rightAt c s)) h in
-      let l = L (son-most p (leftAt c s) (t .1)) in
-      let r = R (son-most p (rightAt c s) (t .2)) in
-      let n = alone-new (p .x) at (treeAt c k (leftAt c s)) (treeAt c k (rightAt c s)) (l .well) (r .well) a in
-      rw (tree-fork c k s ne) (record {
-        leads = slot {s = s} (record { some = omega arith; most = m }) (l .leads) (r .leads);
-        well = well-fork itself at s p (treeAt c k (leftAt c s)) (treeAt c k (rightAt c s)) (holds-true at (p .x) (t .0))
-            (son-tops k p (leftAt c s) (t .1)) (son-tops k p (rightAt c s) (t .2)) (n .0) (n .1) (l .well) (r .well);
-      })
+      let t = both (leb s (slotsOf c)) (holds at (p .x)) h in
+      let n = alone-new (p .x) at (treeAt c k (leftAt c s)) (treeAt c k (rightAt c s)) (l .fine .well) (r .fine .well) a in
+      record {
+        leads = slot {s = s} (record { some = omega arith; most = leb-true _ _ (t .0) }) (l .fine .leads) (r .fine .leads);
+        well = well-fork itself at s p (treeAt c k (leftAt c s)) (treeAt c k (rightAt c s)) (holds-true at (p .x) (t .1))
+            (l .tops) (r .tops) (n .0) (n .1) (l .fine .well) (r .fine .well);
+      }
 
-  pub fine-true : (k s : ℕ) (at : Stripe) → s ≤ slotsOf c → fine c k s at ≡ true → Fine s at (treeAt c k s)
+  pub fine-true : (k : ℕ) (p : Pair) (s : ℕ) (at : Stripe) → fine c k p s at ≡ true → Below p s at (treeAt c k s)
   unfolding fine
-  fine-true zero s at m h = fine-none zero s at (eqb-true _ _ h)
-  fine-true (suc k) s at m h =
-      let L = fine-true k (leftAt c s) (leftPart at) in
-      let R = fine-true k (rightAt c s) (rightPart at) in
-      on (eqb s 0) (λ e. fine-none (suc k) s at (eqb-true _ _ e))
-      (λ e. let h′ : (slotFine c s at && (fine c k (leftAt c s) (leftPart at) && fine c k (rightAt c s) (rightPart at)
-      && alone (pairAt c s .x) at (treeAt c k (leftAt c s)) (treeAt c k (rightAt c s)))) ≡ true = rw e at h in
-      let a = both (slotFine c s at) _ h′ in
-      let b = all-three (fine c k (leftAt c s) (leftPart at)) (fine c k (rightAt c s) (rightPart at)) _ (a .1) in
-      fine-fork k s at (eqb-false _ _ e) m (a .0) (λ q. L q (b .0)) (λ q. R q (b .1)) (b .2))
+  fine-true zero p s at h = fine-none zero p s at (eqb-true _ _ h)
+  fine-true (suc k) p s at h =
+      let q = pairAt c s in
+      let F = fine c k q (leftAt c s) (leftPart at) in
+      let G = fine c k q (rightAt c s) (rightPart at) in
+      let N = alone (q .x) at (treeAt c k (leftAt c s)) (treeAt c k (rightAt c s)) in
+      let L = fine-true k q (leftAt c s) (leftPart at) in
+      let R = fine-true k q (rightAt c s) (rightPart at) in
+      on (eqb s 0) (λ e. fine-none (suc k) p s at (eqb-true _ _ e))
+      (λ e. let h′ : (slotFine c s at && beats p q && (F && G && N)) ≡ true = rw e at h in
+      let ne = eqb-false s 0 e in
+      let a = all-three (slotFine c s at) (beats p q) (F && G && N) h′ in
+      let b = all-three F G N (a .2) in
+      rw (tree-fork c k s ne) (record { fine = fine-slot k s at ne (a .0) (L (b .0)) (R (b .1)) (b .2); tops = over (beats-true p q (a .1)) }))
 
-  slot-true : (s : ℕ) (at : Stripe) (l r : Tree Pair) → Leads c (leftAt c s) l → Leads c (rightAt c s) r → Well itself at (fork s (pairAt c s) l r)
-      → slotFine c s at ≡ true
-  unfolding slotFine
-  slot-true s at l r a b w =
-      let p = pairAt c s in
-      rw (true-holds at (p .x) (w .inside), tops-son p a (tops-of itself p l (w .over-left)), tops-son p b (tops-of itself p r (w .over-right)))
+  pub below-true : (k s : ℕ) (at : Stripe) → (s ≡ 0 → ⊥) → slotFine c s at ≡ true → below c k s at ≡ true → Fine s at (treeAt c (suc k) s)
+  unfolding below
+  below-true k s at ne f h =
+      let q = pairAt c s in
+      let b = all-three (fine c k q (leftAt c s) (leftPart at)) (fine c k q (rightAt c s) (rightPart at)) _ h in
+      rw (tree-fork c k s ne) (fine-slot k s at ne f (fine-true k q (leftAt c s) (leftPart at) (b .0)) (fine-true k q (rightAt c s) (rightPart at) (b .1)) (b .2))
+
+  pub root-true : rootFine c ≡ true → Fine (rootOf c) rootStripe (treeAt c allLevels (rootOf c))
+  unfolding rootFine
+  root-true h =
+      on (eqb (rootOf c) 0) (λ e. fine-none allLevels (pairAt c 0) (rootOf c) rootStripe (eqb-true _ _ e) .fine)
+      (λ e. let h′ : (slotFine c (rootOf c) rootStripe && below c lowLevels (rootOf c) rootStripe) ≡ true = rw e at h in
+      let a = both (slotFine c (rootOf c) rootStripe) (below c lowLevels (rootOf c) rootStripe) h′ in
+      below-true lowLevels (rootOf c) rootStripe (eqb-false _ _ e) (a .0) (a .1))
 
   -- and conversely
-  pub true-fine : (k : ℕ) {s : ℕ} {t : Tree Pair} (at : Stripe) → Leads c s t → Well itself at t → Within k t → fine c k s at ≡ true
+  slot-true : {s : ℕ} {at : Stripe} → Slot c s → In at (pairAt c s .x) → slotFine c s at ≡ true
+  unfolding slotFine
+  slot-true {s} {at} o i = rw (le-leb s (slotsOf c) (o .most), true-holds at (pairAt c s .x) i)
+
+  pub true-fine : (k : ℕ) (p : Pair) {s : ℕ} {t : Tree Pair} (at : Stripe) → Leads c s t → Well itself at t → Tops itself p t → Within k t
+      → fine c k p s at ≡ true
   unfolding fine
-  true-fine zero at nowhere w d = refl
-  true-fine (suc k) at nowhere w d = refl
-  true-fine zero at (slot o l r) w d = absurd d
-  true-fine (suc k) at (slot {s = s} {l = l} {r = r} o a b) w d =
-      let p = pairAt c s in
+  true-fine zero p at nowhere w o d = refl
+  true-fine (suc k) p at nowhere w o d = refl
+  true-fine zero p at (slot q l r) w o d = absurd d
+  true-fine (suc k) p at (slot {s = s} {l = l} {r = r} q a b) w (over u) d =
+      let v = pairAt c s in
       rw (
-        ne-eqb s 0 (λ e. omega (arith, o .some)),
-        slot-true s at l r a b w,
-        true-fine k (leftPart at) a (w .left) (d .0),
-        true-fine k (rightPart at) b (w .right) (d .1),
-        leads-tree c k a (d .0),
-        leads-tree c k b (d .1),
-      )
-      (new-alone (p .x) at l r (under-new itself p l (w .over-left)) (under-new itself p r (w .over-right)))
+        ne-eqb s 0 (λ e. omega (arith, q .some)), slot-true q (w .inside), true-beats u,
+        true-fine k v (leftPart at) a (w .left) (tops-of itself v l (w .over-left)) (d .0),
+        true-fine k v (rightPart at) b (w .right) (tops-of itself v r (w .over-right)) (d .1), leads-tree c k a (d .0), leads-tree c k b (d .1),
+      ) (new-alone (v .x) at l r (under-new itself v l (w .over-left)) (under-new itself v r (w .over-right)))
+
+  true-root : {s : ℕ} {t : Tree Pair} → s ≡ rootOf c → Leads c s t → Well itself rootStripe t → Within allLevels t → rootFine c ≡ true
+  unfolding rootFine below
+  true-root e nowhere w d = rw (← e)
+  true-root e (slot {s = s} {l = l} {r = r} q a b) w d =
+      let v = pairAt c s in
+      rw (
+        ← e, ne-eqb s 0 (λ e. omega (arith, q .some)), slot-true q (w .inside),
+        true-fine lowLevels v (leftPart rootStripe) a (w .left) (tops-of itself v l (w .over-left)) (d .0),
+        true-fine lowLevels v (rightPart rootStripe) b (w .right) (tops-of itself v r (w .over-right)) (d .1),
+        leads-tree c lowLevels a (d .0), leads-tree c lowLevels b (d .1),
+      ) (new-alone (v .x) rootStripe l r (under-new itself v l (w .over-left)) (under-new itself v r (w .over-right)))
 
   -- the free chain
   free-true : (s : ℕ) → isFree c s ≡ true → Free c s
@@ -157,11 +168,12 @@ module _ (c : List ℕ) where
     pub many : length free ≡ k
 
   pub chain-true : (k s : ℕ) → chainFine c k s ≡ true → Chained s k
-  unfolding chainFine
+  unfolding chainFine freeFine
   chain-true zero s h = let e = eqb-true s 0 h in rw e (record { free = []; chain = ends; many = refl })
   chain-true (suc k) s h =
-      let a = all-four (leb 1 s) (leb s (slotsOf c)) (isFree c s) (chainFine c k (rightAt c s)) h in
-      let r = chain-true k (rightAt c s) (a .3) in
+      let b = both (freeFine c s) (chainFine c k (rightAt c s)) h in
+      let a = all-three (leb 1 s) (leb s (slotsOf c)) (isFree c s) (b .0) in
+      let r = chain-true k (rightAt c s) (b .1) in
       record {
         free = s ∷ r .free;
         chain = next (record { some = leb-true _ _ (a .0); most = leb-true _ _ (a .1) }) (free-true s (a .2)) (r .chain);
@@ -169,7 +181,7 @@ module _ (c : List ℕ) where
       }
 
   pub true-chain : {s : ℕ} {rest : List ℕ} → Chain c s rest → chainFine c (length rest) s ≡ true
-  unfolding chainFine
+  unfolding chainFine freeFine
   true-chain ends = refl
   true-chain (next {s = s} o f h) = rw (le-leb 1 s (o .some), le-leb s (slotsOf c) (o .most), true-free s f, true-chain h)
 
@@ -178,10 +190,9 @@ module _ (c : List ℕ) where
   unfolding isSound restFine
   test-sound h =
       let t = treeAt c allLevels (rootOf c) in
-      let a = both (isPool c && eqb (markOf c) 1 && leb (rootOf c) (slotsOf c) && fine c allLevels (rootOf c) rootStripe) _ h in
-      let b = all-four (isPool c) (eqb (markOf c) 1) (leb (rootOf c) (slotsOf c)) (fine c allLevels (rootOf c) rootStripe) (a .0) in
-      let d = all-three (eqb (size t) (countOf c)) (leb (countOf c) (slotsOf c)) (chainFine c (slotsOf c - countOf c) (freeOf c)) (a .1) in
-      let f = fine-true allLevels (rootOf c) rootStripe (leb-true _ _ (b .2)) (b .3) in
+      let b = all-four (isPool c) (eqb (markOf c) 1) (rootFine c) (restFine c) h in
+      let d = all-three (eqb (size t) (countOf c)) (leb (countOf c) (slotsOf c)) (chainFine c (slotsOf c - countOf c) (freeOf c)) (b .3) in
+      let f = root-true (b .2) in
       let g = chain-true (slotsOf c - countOf c) (freeOf c) (d .2) in
       let m = g .many in
       let n : countOf c ≤ slotsOf c = leb-true _ _ (d .1) in
@@ -207,10 +218,6 @@ module _ (c : List ℕ) where
   pub sound-tree : (s : Sound c) → treeAt c allLevels (rootOf c) ≡ s .tree
   sound-tree s = leads-tree c allLevels (s .links) (s .levels)
 
-  leads-most : {s : ℕ} {t : Tree Pair} → Leads c s t → s ≤ slotsOf c
-  leads-most nowhere = omega arith
-  leads-most (slot o l r) = o .most
-
   pub sound-test : Sound c → isSound c ≡ true
   unfolding isSound restFine
   sound-test s =
@@ -219,8 +226,7 @@ module _ (c : List ℕ) where
       rw (
         true-pool c (s .pool),
         eq-eqb (markOf c) 1 (s .mark),
-        le-leb (rootOf c) (slotsOf c) (leads-most (s .links)),
-        true-fine allLevels rootStripe (s .links) (sound-well s) (s .levels),
+        true-root refl (s .links) (sound-well s) (s .levels),
         sound-tree s,
         eq-eqb (size (s .tree)) (countOf c) (s .count),
         le-leb (countOf c) (slotsOf c) (omega arith),

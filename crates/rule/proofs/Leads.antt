@@ -1,16 +1,21 @@
 -- The tree that a link leads to is the one that is read from the cells, and no other. Assumes nothing.
-use Prim.Native.Nat.{ℕ, zero, suc, _≤_}
+use Prim.Native.Nat.{ℕ, zero, suc, _+_, _*_, _-_, _^_, _≤_, _<_}
 use mathlib.Core.Path.{_≡_, refl, sym, ap, _∙_}
 use mathlib.Core.Bool.{Bool, true, false, cond}
 use mathlib.Core.List.{List}
 use native.Mathlib.Omega.{arith}
+use native.Mathlib.Nat.{pow-suc}
 use lib.Dec.{eqb}
 use borrow.Author.Tests.{eq-eqb, ne-eqb}
 use Rattle.rule.specs.declared.Pair.{Pair}
-use Rattle.rule.specs.Tree.{Tree, none, fork, Within}
-use Rattle.rule.specs.Cells.{pairAt, leftAt, rightAt, treeAt}
+use Rattle.rule.specs.Tree.{Tree, none, fork, size, Within}
+use Rattle.rule.specs.Cells.{Fits, pairAt, leftAt, rightAt, sonAt, treeAt}
 use Rattle.rule.specs.Sound.{Slot, Leads, nowhere, slot}
 use Rattle.rule.proofs.Tests.{on}
+
+-- the code's `n - 1` and the definitions' `suc`
+pub back : (n : ℕ) → (n ≡ 0 → ⊥) → suc (n - 1) ≡ n
+back n h = omega arith
 
 module _ (c : List ℕ) where
   pub tree-none : (k s : ℕ) → s ≡ 0 → treeAt c k s ≡ none
@@ -43,3 +48,42 @@ module _ (c : List ℕ) where
   leads-one nowhere (slot o l r) = absurd (omega (arith, o .some))
   leads-one (slot o l r) nowhere = absurd (omega (arith, o .some))
   leads-one (slot {s = s} o l r) (slot o′ l′ r′) = λ i. fork s (pairAt c s) (leads-one l l′ i) (leads-one r r′ i)
+
+  -- what the code may rely on along a link
+  leads-none : {s : ℕ} {t : Tree Pair} → Leads c s t → t ≡ none → s ≡ 0
+  leads-none nowhere e = refl
+  leads-none (slot o l r) e = let z : _≡_ {A = ℕ} 0 1 = cc in absurd (omega arith)
+
+  pub leads-deep : (k s : ℕ) → Leads c s (treeAt c k s) → (s ≡ 0 → ⊥) → k ≡ 0 → ⊥
+  unfolding treeAt
+  leads-deep zero s h ne e = ne (leads-none h refl)
+  leads-deep (suc k) s h ne e = omega arith
+
+  pub leads-fits : {s : ℕ} {t : Tree Pair} → Leads c s t → (s ≡ 0 → ⊥) → Fits c s
+  leads-fits nowhere ne = absurd (ne refl)
+  leads-fits (slot o l r) ne = let a = o .some in let b = o .most in omega arith
+
+  record Sons (t u : Tree Pair) (s : ℕ) : Type 0 where
+    left : Leads c (leftAt c s) t
+    right : Leads c (rightAt c s) u
+
+  leads-fork : {s i : ℕ} {p : Pair} {t l r : Tree Pair} → Leads c s t → t ≡ fork i p l r → Sons l r s
+  leads-fork nowhere e = let z : _≡_ {A = ℕ} 0 1 = cc in absurd (omega arith)
+  leads-fork {l = u} {r = v} (slot {l = l} {r = r} o a b) e =
+      let el : l ≡ u = cc in
+      let er : r ≡ v = cc in
+      record { left = rw el at a; right = rw er at b }
+
+  pub leads-son : (k s : ℕ) (b : Bool) → Leads c s (treeAt c (suc k) s) → (s ≡ 0 → ⊥) → Leads c (sonAt c s b) (treeAt c k (sonAt c s b))
+  unfolding sonAt
+  leads-son k s true h ne = leads-fork h (tree-fork k s ne) .left
+  leads-son k s false h ne = leads-fork h (tree-fork k s ne) .right
+
+  -- a tree that is read so many levels down has few slots
+  pub few : (k s : ℕ) → size (treeAt c k s) < 2 ^ k
+  unfolding treeAt
+  few zero s = omega arith
+  few (suc k) s =
+      let l = few k (leftAt c s) in
+      let r = few k (rightAt c s) in
+      on (eqb s 0) (λ e. rw e (omega (arith, pow-suc 2 k))) (λ e. rw e (omega (arith, pow-suc 2 k)))

@@ -1,5 +1,5 @@
 -- Beating is an order that decides between any two pairs with different x. Assumes nothing.
-use Prim.Native.Nat.{ℕ}
+use Prim.Native.Nat.{ℕ, _≤_}
 use mathlib.Core.Path.{_≡_, refl, sym, _∙_}
 use mathlib.Core.Logic.{_≢_, _⊎_, inl, inr, ⊎-elim}
 use mathlib.Core.Bool.{Bool, true, false, true≢false, _&&_, _||_}
@@ -54,3 +54,8 @@ false-beats {p} {q} h = on (beats p q) (λ t. absurd (beats-asym h (beats-true p
 
 pub beats-false : (p q : Pair) → p .x ≢ q .x → beats p q ≡ false → Beats q p
 beats-false p q ne f = ⊎-elim (λ b. absurd (true≢false (sym (true-beats b) ∙ f))) (λ b. b) (beats-total p q ne)
+
+-- on equal y the smaller x decides
+pub beats-level : (p q : Pair) → q .y ≤ p .y → p .y ≤ q .y → ltb (p .x) (q .x) ≡ beats p q
+unfolding beats
+beats-level p q h k = rw (le-ltb (p .y) (q .y) h, eq-eqb (p .y) (q .y) (omega arith))

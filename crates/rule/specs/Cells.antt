@@ -46,6 +46,10 @@ leftAt c s = getD c (s * perSlot + 2) 0
 abbrev pub rightAt : List ℕ → ℕ → ℕ
 rightAt c s = getD c (s * perSlot + 3) 0
 
+-- the link to the left son, or to the right one
+unfoldable pub sonAt : List ℕ → ℕ → Bool → ℕ
+sonAt c s left = cond left (leftAt c s) (rightAt c s)
+
 -- the cells with slot s written anew: its pair, its links
 abbrev pub putPair : List ℕ → ℕ → Pair → List ℕ
 putPair c s p = set (set c (s * perSlot) (p .x)) (s * perSlot + 1) (p .y)

@@ -35,9 +35,12 @@ pub data Chain (c : List ℕ) : ℕ → List ℕ → Type 0 where
   ends : Chain c 0 []
   next : {s : ℕ} {rest : List ℕ} → Slot c s → Free c s → Chain c (rightAt c s) rest → Chain c s (s ∷ rest)
 
--- levels 0 to 32
+-- the levels below the root, and all levels, the root's with them
+abbrev pub lowLevels : ℕ
+lowLevels = 32
+
 abbrev pub allLevels : ℕ
-allLevels = 33
+allLevels = suc lowLevels
 
 abbrev pub itself : Pair → Pair
 itself p = p

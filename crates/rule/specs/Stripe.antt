@@ -1,6 +1,6 @@
 -- The part of the x that a slot of the tree owns.
 use Prim.Native.Nat.{ℕ, _+_, _/_, _≤_, _<_}
-use mathlib.Core.Bool.{Bool, _&&_}
+use mathlib.Core.Bool.{Bool, cond, _&&_}
 use lib.Dec.{ltb, leb}
 
 -- a half-open stripe of x
@@ -23,6 +23,10 @@ leftPart s = record { lower = s .lower; upper = middle s }
 -- the right son owns the rest
 abbrev pub rightPart : Stripe → Stripe
 rightPart s = record { lower = middle s; upper = s .upper }
+
+-- the part on x's side of the middle
+unfoldable pub partOf : Stripe → ℕ → Stripe
+partOf s x = cond (ltb x (middle s)) (leftPart s) (rightPart s)
 
 -- x lies in the stripe
 pub record In (s : Stripe) (x : ℕ) : Type 0 where

@@ -10,19 +10,15 @@ use Rattle.rule.specs.Stripe.{Stripe, rootStripe, holds, middle, leftPar
 use Rattle.rule.specs.Tree.{Tree, size}
 use Rattle.rule.specs.Changes.{met}
 use Rattle.rule.specs.Cells.{perSlot, slotsOf, markOf, rootOf, freeOf, countOf, pairAt, leftAt, rightAt, isFree, treeAt}
-use Rattle.rule.specs.Sound.{allLevels, itself}
+use Rattle.rule.specs.Sound.{lowLevels, allLevels, itself}
 
 -- the length is that of a pool
 unfoldable pub isPool : List ℕ → Bool
 isPool c = eqb (length c) (perSlot * (slotsOf c + 1)) && leb 1 (slotsOf c) && leb (slotsOf c) 4095
 
--- a son's link is 0, or a slot whose pair the father's beats
-unfoldable pub sonFine : List ℕ → Pair → ℕ → Bool
-sonFine c p s = eqb s 0 || (leb s (slotsOf c) && beats p (pairAt c s))
-
--- a slot's own tests, before anything below it is looked at
+-- s is a slot of the pool, and its x lies in its stripe
 unfoldable pub slotFine : List ℕ → ℕ → Stripe → Bool
-slotFine c s at = holds at (pairAt c s .x) && sonFine c (pairAt c s) (leftAt c s) && sonFine c (pairAt c s) (rightAt c s)
+slotFine c s at = leb s (slotsOf c) && holds at (pairAt c s .x)
 
 -- x is not met below a slot, looked for by halving: it could stand nowhere else
 unfoldable pub alone : ℕ → Stripe → Tree Pair → Tree Pair → Bool
@@ -31,22 +27,42 @@ alone x at l r =
     let right = met itself x (rightPart at) r in
     not (cond (ltb x (middle at)) left right)
 
--- all is fine from a link down, so many levels
-unfoldable pub fine : List ℕ → ℕ → ℕ → Stripe → Bool
-fine c zero s at = eqb s 0
-fine c (suc k) s at =
+-- all is fine from a link down, so many levels, where the father's pair is p: a slot is tested before anything below it
+unfoldable pub fine : List ℕ → ℕ → Pair → ℕ → Stripe → Bool
+fine c zero p s at = eqb s 0
+fine c (suc k) p s at =
+    let q : Pair = pairAt c s in
     let l : ℕ = leftAt c s in
     let r : ℕ = rightAt c s in
-    let below : Bool = fine c k l (leftPart at) && fine c k r (rightPart at) && alone (pairAt c s .x) at (treeAt c k l) (treeAt c k r) in
-    let here : Bool = slotFine c s at && below in
+    let sons : Bool = fine c k q l (leftPart at) && fine c k q r (rightPart at) && alone (q .x) at (treeAt c k l) (treeAt c k r) in
+    let here : Bool = slotFine c s at && beats p q && sons in
     eqb s 0 || here
+
+-- all is fine below a slot, so many levels, and its x is not met there
+unfoldable pub below : List ℕ → ℕ → ℕ → Stripe → Bool
+below c k s at =
+    let q : Pair = pairAt c s in
+    let l : ℕ = leftAt c s in
+    let r : ℕ = rightAt c s in
+    fine c k q l (leftPart at) && fine c k q r (rightPart at) && alone (q .x) at (treeAt c k l) (treeAt c k r)
+
+-- all is fine from the root down: it has no father
+unfoldable pub rootFine : List ℕ → Bool
+rootFine c =
+    let s : ℕ = rootOf c in
+    let here : Bool = slotFine c s rootStripe && below c lowLevels s rootStripe in
+    eqb s 0 || here
+
+-- a free slot of the chain
+unfoldable pub freeFine : List ℕ → ℕ → Bool
+freeFine c s = leb 1 s && leb s (slotsOf c) && isFree c s
 
 -- the chain has exactly so many slots, and then ends
 unfoldable pub chainFine : List ℕ → ℕ → ℕ → Bool
 chainFine c zero s = eqb s 0
 chainFine c (suc k) s =
     let rest : Bool = chainFine c k (rightAt c s) in
-    leb 1 s && leb s (slotsOf c) && isFree c s && rest
+    freeFine c s && rest
 
 -- the tree's slots and the free ones are all slots
 unfoldable pub restFine : List ℕ → Bool
@@ -56,4 +72,4 @@ restFine c =
 -- the test of a pool
 unfoldable pub isSound : List ℕ → Bool
 isSound c =
-    isPool c && eqb (markOf c) 1 && leb (rootOf c) (slotsOf c) && fine c allLevels (rootOf c) rootStripe && restFine c
+    isPool c && eqb (markOf c) 1 && rootFine c && restFine c

@@ -1,6 +1,8 @@
 // The types that every crate shares. What they mean is in specs/.
 ghost use mathlib.Core.Path.{_≡_};
-ghost use Rattle.rule.specs.Stripe.{Low, rootStripe, middle, leftPart, rightPart, holds};
+ghost use lib.Dec.{ltb};
+ghost use Rattle.rule.specs.Pairs.{beats};
+ghost use Rattle.rule.specs.Stripe.{Low, rootStripe, middle, leftPart, rightPart, partOf, holds};
 ghost use Rattle.rule.specs.Shape.{stripeOf};
 
 pub mod codes;
@@ -9,6 +11,21 @@ pub mod codes;
 pub struct Pair {
     pub x: u32,
     pub y: u32,
+}
+
+impl Pair {
+    // A pair beats another if its y is smaller, or y is equal and its x is smaller.
+    pub fn beats(self, other: Pair) -> bool
+        ensures { λ r. ⌜ r ≡ beats self other ⌝ }
+    {
+        if self.y < other.y {
+            return true;
+        }
+        if other.y < self.y {
+            return false;
+        }
+        self.x < other.x
+    }
 }
 
 // The limits of a question, inclusive.
@@ -69,6 +86,25 @@ impl Stripe {
             lower: m,
             upper: self.upper,
         }
+    }
+
+    // Whether x lies below the middle.
+    pub fn goes_left(self, x: u32) -> bool
+        requires { ⌜ Low (stripeOf self) ⌝ }
+        ensures { λ r. ⌜ r ≡ ltb x (middle (stripeOf self)) ⌝ }
+    {
+        (x as u64) < self.middle()
+    }
+
+    // The part on x's side of the middle.
+    pub fn towards(self, x: u32) -> Stripe
+        requires { ⌜ Low (stripeOf self) ⌝ }
+        ensures { λ r. ⌜ stripeOf r ≡ partOf (stripeOf self) x ⌝ }
+    {
+        if self.goes_left(x) {
+            return self.left();
+        }
+        self.right()
     }
 
     // Whether x lies in the stripe.

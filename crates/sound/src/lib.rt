@@ -1,4 +1,6 @@
 // Set up and check: the two calls that accept any cells at all.
+mod tree;
+
 use rule::Answer;
 use rule::Outcome;
 use rule::codes;
