@@ -19,7 +19,8 @@ use Rattle.rule.specs.Test.{isPool, slotFine, alone, fine, below, rootFi
 use Rattle.rule.proofs.Tests.{on, both, and-true, either, all-three, all-four}
 use Rattle.rule.proofs.Order.{beats-true, true-beats}
 use Rattle.rule.proofs.Trees.{all-map, well-in, New, under-new, tops-of}
-use Rattle.rule.proofs.Clauses.{well-fork, well-of, stripes-of, ordered-of, apart-of}
+use Rattle.rule.proofs.Clauses.{well-fork, well-of, stripes-of, ordered-of}
+use Rattle.rule.proofs.Members.{well-apart}
 use Rattle.rule.proofs.Halving.{unmet-new, new-unmet}
 use Rattle.rule.proofs.Leads.{tree-none, tree-fork, tree-within, leads-tree}
 
@@ -134,9 +135,13 @@ module _ (c : List ℕ) where
   true-fine (suc k) p at (slot {s = s} {l = l} {r = r} q a b) w (over u) d =
       let v = pairAt c s in
       rw (
-        ne-eqb s 0 (λ e. omega (arith, q .some)), slot-true q (w .inside), true-beats u,
+        ne-eqb s 0 (λ e. omega (arith, q .some)),
+        slot-true q (w .inside),
+        true-beats u,
         true-fine k v (leftPart at) a (w .left) (tops-of itself v l (w .over-left)) (d .0),
-        true-fine k v (rightPart at) b (w .right) (tops-of itself v r (w .over-right)) (d .1), leads-tree c k a (d .0), leads-tree c k b (d .1),
+        true-fine k v (rightPart at) b (w .right) (tops-of itself v r (w .over-right)) (d .1),
+        leads-tree c k a (d .0),
+        leads-tree c k b (d .1),
       ) (new-alone (v .x) at l r (under-new itself v l (w .over-left)) (under-new itself v r (w .over-right)))
 
   true-root : {s : ℕ} {t : Tree Pair} → s ≡ rootOf c → Leads c s t → Well itself rootStripe t → Within allLevels t → rootFine c ≡ true
@@ -145,10 +150,13 @@ module _ (c : List ℕ) where
   true-root e (slot {s = s} {l = l} {r = r} q a b) w d =
       let v = pairAt c s in
       rw (
-        ← e, ne-eqb s 0 (λ e. omega (arith, q .some)), slot-true q (w .inside),
+        ← e,
+        ne-eqb s 0 (λ e. omega (arith, q .some)),
+        slot-true q (w .inside),
         true-fine lowLevels v (leftPart rootStripe) a (w .left) (tops-of itself v l (w .over-left)) (d .0),
         true-fine lowLevels v (rightPart rootStripe) b (w .right) (tops-of itself v r (w .over-right)) (d .1),
-        leads-tree c lowLevels a (d .0), leads-tree c lowLevels b (d .1),
+        leads-tree c lowLevels a (d .0),
+        leads-tree c lowLevels b (d .1),
       ) (new-alone (v .x) rootStripe l r (under-new itself v l (w .over-left)) (under-new itself v r (w .over-right)))
 
   -- the free chain
@@ -203,7 +211,7 @@ module _ (c : List ℕ) where
         links = f .leads;
         stripes = stripes-of itself rootStripe t (f .well);
         order = ordered-of itself rootStripe t (f .well);
-        apart = apart-of itself rootStripe t (f .well);
+        apart = well-apart itself rootStripe t (f .well);
         levels = tree-within c allLevels (rootOf c);
         count = eqb-true _ _ (d .0);
         free = g .free;

@@ -8,7 +8,7 @@ use lib.Dec.{ltb, eqb}
 use borrow.Author.Tests.{ltb-true, ltb-false, eqb-true, lt-ltb, le-ltb, eq-eqb}
 use Rattle.rule.specs.declared.Pair.{Pair}
 use Rattle.rule.specs.Pairs.{Beats, lower, level, beats}
-use Rattle.rule.proofs.Tests.{test, on}
+use Rattle.rule.proofs.Tests.{test, on, clash}
 
 pub pair-ext : {p q : Pair} → p .x ≡ q .x → p .y ≡ q .y → p ≡ q
 pair-ext e f = λ i. record { x = e i; y = f i }
@@ -55,7 +55,23 @@ false-beats {p} {q} h = on (beats p q) (λ t. absurd (beats-asym h (beats-true p
 pub beats-false : (p q : Pair) → p .x ≢ q .x → beats p q ≡ false → Beats q p
 beats-false p q ne f = ⊎-elim (λ b. absurd (true≢false (sym (true-beats b) ∙ f))) (λ b. b) (beats-total p q ne)
 
+-- two pairs of which neither beats the other are equal
+not-below : (p q : Pair) → beats p q ≡ false → q .y ≤ p .y
+not-below p q e = on (ltb (p .y) (q .y)) (λ a. absurd (clash (true-beats {p = p} {q = q} (lower (ltb-true _ _ a))) e)) (λ a. ltb-false _ _ a)
+
+not-before : (p q : Pair) → beats p q ≡ false → p .y ≡ q .y → q .x ≤ p .x
+not-before p q e d = on (ltb (p .x) (q .x)) (λ a. absurd (clash (true-beats {p = p} {q = q} (level d (ltb-true _ _ a))) e)) (λ a. ltb-false _ _ a)
+
+pub beats-level : (p q : Pair) → beats p q ≡ false → beats q p ≡ false → p ≡ q
+beats-level p q e f =
+    let a = not-below p q e in
+    let b = not-below q p f in
+    let d : p .y ≡ q .y = omega arith in
+    let c = not-before p q e d in
+    let g = not-before q p f (sym d) in
+    pair-ext (omega arith) d
+
 -- on equal y the smaller x decides
-pub beats-level : (p q : Pair) → q .y ≤ p .y → p .y ≤ q .y → ltb (p .x) (q .x) ≡ beats p q
+pub beats-by-x : (p q : Pair) → q .y ≤ p .y → p .y ≤ q .y → ltb (p .x) (q .x) ≡ beats p q
 unfolding beats
-beats-level p q h k = rw (le-ltb (p .y) (q .y) h, eq-eqb (p .y) (q .y) (omega arith))
+beats-by-x p q h k = rw (le-ltb (p .y) (q .y) h, eq-eqb (p .y) (q .y) (omega arith))

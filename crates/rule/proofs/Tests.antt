@@ -1,7 +1,7 @@
 -- Computed tests, taken apart. Assumes nothing.
-use mathlib.Core.Path.{_≡_, refl}
+use mathlib.Core.Path.{_≡_, refl, sym, _∙_}
 use mathlib.Core.Logic.{_⊎_, inl, inr}
-use mathlib.Core.Bool.{Bool, true, false, _&&_, _||_}
+use mathlib.Core.Bool.{Bool, true, false, true≢false, _&&_, _||_}
 
 -- a test, either way, with its equation
 pub test : (b : Bool) → (b ≡ true) ⊎ (b ≡ false)
@@ -12,6 +12,9 @@ test false = inr refl
 pub on {ℓ} : {C : Type ℓ} (b : Bool) → (b ≡ true → C) → (b ≡ false → C) → C
 on true f g = f refl
 on false f g = g refl
+
+pub clash : {b : Bool} → b ≡ true → b ≡ false → ⊥
+clash e f = true≢false (sym e ∙ f)
 
 pub both : (a b : Bool) → (a && b) ≡ true → (a ≡ true) × (b ≡ true)
 both true b h = (refl, h)

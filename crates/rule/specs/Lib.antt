@@ -1,4 +1,4 @@
--- What the product means, in reading order: the plain list (Pairs, Plain), the rule (Stripe, Tree, Changes, Walks), the pool (Cells, Sound),
+-- What the product means, in reading order: the plain list (Pairs, Plain), the rule (Stripe, Tree, Changes, Walks), the pool (Cells, Sound, Laid),
 -- the answer (Codes, Answer, Refusals). Shape and Test tie the code to these.
 pub mod Pairs
 pub mod Plain
@@ -9,6 +9,7 @@ pub mod Walks
 pub mod Cells
 pub mod Sound
 pub mod Test
+pub mod Laid
 pub mod Codes
 pub mod Answer
 pub mod Refusals

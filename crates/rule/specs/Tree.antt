@@ -2,7 +2,7 @@
 use Prim.Native.Nat.{ℕ, zero, suc, _+_}
 use mathlib.Core.Path.{_≡_}
 use mathlib.Core.Logic.{_≢_}
-use mathlib.Core.List.{List, [], _∷_, _++_}
+use mathlib.Core.List.{List, [], _∷_, _++_, map}
 use Rattle.rule.specs.declared.Pair.{Pair}
 use Rattle.rule.specs.Pairs.{Beats}
 use Rattle.rule.specs.Stripe.{Stripe, In, leftPart, rightPart}
@@ -68,8 +68,7 @@ Apart (x ∷ xs) = Differs x xs × Apart xs
 
 -- the x of the slots
 abbrev pub xs : {A : Type 0} → (A → Pair) → Tree A → List ℕ
-xs key none = []
-xs key (fork s p l r) = key p .x ∷ (xs key l ++ xs key r)
+xs key t = map (λ p. key p .x) (members t)
 
 -- the tree has so many levels at most
 abbrev pub Within : {A : Type 0} → ℕ → Tree A → Type 0

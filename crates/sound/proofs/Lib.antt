@@ -1,3 +1,6 @@
 -- The laws that the proofs of the functions cite, and what the two calls mean.
 pub mod Lengths
 pub mod Chaining
+pub mod Searching
+pub mod Places
+pub mod Counting

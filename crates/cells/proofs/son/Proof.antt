@@ -6,13 +6,13 @@ use Rattle.cells.proofs.son.Tie as tie
 
 returns : tie.Need-returns
 unfolding sonAt
-returns c = 
+returns c =
     let p1 = c .before in
     rw (p1 .if1 .taken) (c .left .ensures)
 
 returns-2 : tie.Need-returns-2
 unfolding sonAt
-returns-2 c = 
+returns-2 c =
     let p1 = c .before in
     rw (p1 .if1 .left) (c .right .ensures)
 

@@ -7,13 +7,13 @@ use Rattle.rule.proofs.Stripe.towards.Tie as tie
 
 returns : tie.Need-returns
 unfolding partOf
-returns c = 
+returns c =
     let p1 = c .before in let p2 = p1 .before in
     rw (sym (p2 .goes-left .ensures) ∙ p1 .if1 .taken) (c .left .ensures)
 
 returns-2 : tie.Need-returns-2
 unfolding partOf
-returns-2 c = 
+returns-2 c =
     let p1 = c .before in let p2 = p1 .before in
     rw (sym (p2 .goes-left .ensures) ∙ p1 .if1 .left) (c .right .ensures)
 

@@ -1,57 +1,62 @@
+-- The invariant: what is left to look for, found, is what was to be found. Assumes nothing.
+use mathlib.Core.Path.{_≡_, refl, _∙_}
+use native.Mathlib.Omega.{arith}
+use Rattle.rule.specs.Changes.{met}
+use Rattle.rule.specs.Cells.{treeAt}
+use Rattle.rule.specs.Shape.{stripeOf}
+use Rattle.rule.specs.Sound.{itself}
+use Rattle.sound.specs.Checked.{Sought}
+use Rattle.sound.proofs.Searching.{ends-here, there, deep, hit, goes-on, sought-on}
+use borrow.Author.Needs.{needs}
 use Rattle.sound.proofs.tree.met.Statement.{statement}
 use Rattle.sound.proofs.tree.met.Tie as tie
-use Rattle.sound.proofs.tree.met.Reads as reads
-use Rattle.sound.proofs.tree.met.Lts as lts
-use Rattle.cells.proofs.pair.Reads as pair-reads
-use Rattle.cells.proofs.son.Reads as son-reads
-use Rattle.rule.proofs.Stripe.goes_left.Reads as goes-left-reads
-use Rattle.rule.proofs.Stripe.towards.Reads as towards-reads
 
 abbrev Inv-loop : tie.InvT-loop
-Inv-loop pool levels slot x place₀ part₀ left₀ place part left = ?
+Inv-loop pool levels slot x place₀ part₀ left₀ place part left =
+    Sought pool left place (stripeOf part) × (met itself x (stripeOf part) (treeAt pool left place) ≡ met itself x (stripeOf part₀) (treeAt pool left₀ place₀))
 
 abbrev μ-loop : tie.MeasureT-loop
-μ-loop pool levels slot x place₀ part₀ left₀ place part left = ?
+μ-loop pool levels slot x place₀ part₀ left₀ place part left = left
 
--- src/tree.rt:37:5
 loop-holds : tie.Need-loop-holds Inv-loop μ-loop
-loop-holds c = ?
+loop-holds c = (c .before .pre, refl)
 
--- src/tree.rt:41:13
 pair-requires : tie.Need-pair-requires Inv-loop μ-loop
-pair-requires c κs = ?
+pair-requires c κs =
+    let p1 = c .before in
+    there _ _ _ _ 0 (p1 .loop .inv .0) (c .if1 .left)
 
--- src/tree.rt:45:41
 goes-left-requires : tie.Need-goes-left-requires Inv-loop μ-loop
-goes-left-requires c κs = ?
+goes-left-requires c κs = c .before .before .before .before .loop .inv .0 .low
 
--- src/tree.rt:45:9
 son-requires : tie.Need-son-requires Inv-loop μ-loop
-son-requires c κs = ?
+son-requires c κs =
+    let p4 = c .before .before .before .before in let p5 = p4 .before in
+    there _ _ _ _ 0 (p5 .loop .inv .0) (p4 .if1 .left)
 
--- src/tree.rt:46:9
 towards-requires : tie.Need-towards-requires Inv-loop μ-loop
-towards-requires c κs = ?
+towards-requires c κs = c .before .before .before .before .before .before .loop .inv .0 .low
 
--- src/tree.rt:47:9
 sub-left : tie.Need-sub-left Inv-loop μ-loop
-sub-left c = ?
+sub-left c = let d = deep _ _ _ _ 0 (c .before .before .before .before .before .before .before .loop .inv .0) (c .before .before .before .before .before .before .if1 .left) in omega arith
 
--- src/tree.rt:37:5
 loop-less : tie.Need-loop-less Inv-loop μ-loop
-loop-less c = ?
+loop-less c = let d = deep _ _ _ _ 0 (c .before .before .before .before .before .before .before .loop .inv .0) (c .before .before .before .before .before .before .if1 .left) in omega arith
 
--- src/tree.rt:37:5
 loop-again : tie.Need-loop-again Inv-loop μ-loop
-loop-again c = ?
+loop-again c =
+    let p1 = c .before in let p2 = p1 .before in let p3 = p2 .before in let p5 = p3 .before .before in let p6 = p5 .before in let p7 = p6 .before in
+    (sought-on _ _ _ _ _ (p7 .loop .inv .0) (p6 .if1 .left) (rw (p5 .pair .ensures) at (p3 .if2 .left)) _ _ _ (p2 .goes-left .ensures) (p1 .son .ensures) (c .towards .ensures), goes-on _ _ _ _ _ (p7 .loop .inv .0) (p6 .if1 .left) (rw (p5 .pair .ensures) at (p3 .if2 .left)) _ _ _ (p2 .goes-left .ensures) (p1 .son .ensures) (c .towards .ensures) ∙ p7 .loop .inv .1)
 
--- src/tree.rt:30:1
 returns : tie.Need-returns Inv-loop μ-loop
-returns c = ?
+returns c =
+    let p1 = c .before in
+    ends-here _ _ _ _ _ (c .if1 .taken) ∙ p1 .loop .inv .1
 
--- src/tree.rt:30:1
 returns-2 : tie.Need-returns-2 Inv-loop μ-loop
-returns-2 c = ?
+returns-2 c =
+    let p2 = c .before .before in let p3 = p2 .before in let p4 = p3 .before in
+    hit _ _ _ _ _ (p4 .loop .inv .0) (p3 .if1 .left) (rw (p2 .pair .ensures) at (c .if2 .taken)) ∙ p4 .loop .inv .1
 
 pub met-spec : {M : Type 1} → statement M
 met-spec =

@@ -1,61 +1,54 @@
+-- Each way out is one case. Assumes nothing.
+use mathlib.Core.Path.{sym, _∙_}
+use native.Mathlib.Omega.{arith}
+use borrow.Author.Tests.{not-true, not-false}
+use Rattle.sound.specs.Checked.{empty, leaf, branch, bad}
+use Rattle.sound.proofs.Places.{fine-fits, too-deep, faulty-slot, faulty-order}
 use borrow.Author.Needs.{needs}
 use Rattle.sound.proofs.tree.place_of.Statement.{statement}
 use Rattle.sound.proofs.tree.place_of.Tie as tie
-use Rattle.sound.proofs.tree.place_of.Reads as reads
-use Rattle.sound.proofs.tree.place_of.Lts as lts
-use Rattle.cells.proofs.left.Reads as left-reads
-use Rattle.cells.proofs.pair.Reads as pair-reads
-use Rattle.cells.proofs.right.Reads as right-reads
-use Rattle.rule.proofs.Pair.beats.Reads as beats-reads
-use Rattle.sound.proofs.tree.slot_fine.Reads as slot-fine-reads
 
--- src/tree.rt:79:9
 returns : tie.Need-returns
-returns c = ?
+returns c = empty (c .if1 .taken)
 
--- src/tree.rt:82:9
 returns-2 : tie.Need-returns-2
-returns-2 c = ?
+returns-2 c =
+    let p1 = c .before in
+    bad (too-deep _ _ _ _ _ (p1 .if1 .left) (c .if2 .taken))
 
--- src/tree.rt:84:9
-slot-fine-requires : tie.Need-slot-fine-requires
-slot-fine-requires c κs = search needs
-
--- src/tree.rt:85:9
 returns-3 : tie.Need-returns-3
-returns-3 c = ?
+returns-3 c =
+    let p1 = c .before in let p2 = p1 .before in let p3 = p2 .before in
+    bad (faulty-slot _ _ _ _ _ (p3 .if1 .left) _ (p2 .if2 .left) (p1 .slot-fine .ensures) (not-true _ (c .if3 .taken)))
 
--- src/tree.rt:87:17
 pair-requires : tie.Need-pair-requires
-pair-requires c κs = ?
+pair-requires c κs = fine-fits _ _ _ _ (omega (arith, c .before .before .before .if1 .left)) (c .before .slot-fine .ensures) (not-false _ (c .if3 .left))
 
--- src/tree.rt:87:9
-beats-requires : tie.Need-beats-requires
-beats-requires c κs = search needs
-
--- src/tree.rt:88:9
 returns-4 : tie.Need-returns-4
-returns-4 c = ?
+returns-4 c =
+    let p1 = c .before in let p2 = p1 .before in let p5 = p2 .before .before .before in let p6 = p5 .before in
+    bad (faulty-order _ _ _ _ _ (p6 .if1 .left) _ _ (p5 .if2 .left) (p2 .pair .ensures) (p1 .beats .ensures) (not-true _ (c .if4 .taken)))
 
--- src/tree.rt:90:8
 left-requires : tie.Need-left-requires
-left-requires c κs = ?
+left-requires c κs = fine-fits _ _ _ _ (omega (arith, c .before .before .before .before .before .before .if1 .left)) (c .before .before .before .before .slot-fine .ensures) (not-false _ (c .before .before .before .if3 .left))
 
--- src/tree.rt:91:9
 returns-5 : tie.Need-returns-5
-returns-5 c = ?
+returns-5 c =
+    let p2 = c .before .before in let p3 = p2 .before in let p4 = p3 .before in let p5 = p4 .before in let p6 = p5 .before in let p7 = p6 .before in let p8 = p7 .before in
+    branch (p8 .if1 .left) (p7 .if2 .left) (sym (p6 .slot-fine .ensures) ∙ not-false _ (p5 .if3 .left)) (rw (p4 .pair .ensures) at (sym (p3 .beats .ensures) ∙ not-false _ (p2 .if4 .left)))
 
--- src/tree.rt:93:8
 right-requires : tie.Need-right-requires
-right-requires c κs = ?
+right-requires c κs = fine-fits _ _ _ _ (omega (arith, c .before .before .before .before .before .before .before .before .if1 .left)) (c .before .before .before .before .before .before .slot-fine .ensures) (not-false _ (c .before .before .before .before .before .if3 .left))
 
--- src/tree.rt:94:9
 returns-6 : tie.Need-returns-6
-returns-6 c = ?
+returns-6 c =
+    let p4 = c .before .before .before .before in let p5 = p4 .before in let p6 = p5 .before in let p7 = p6 .before in let p8 = p7 .before in let p9 = p8 .before in let p10 = p9 .before in
+    branch (p10 .if1 .left) (p9 .if2 .left) (sym (p8 .slot-fine .ensures) ∙ not-false _ (p7 .if3 .left)) (rw (p6 .pair .ensures) at (sym (p5 .beats .ensures) ∙ not-false _ (p4 .if4 .left)))
 
--- src/tree.rt:75:1
 returns-7 : tie.Need-returns-7
-returns-7 c = ?
+returns-7 c =
+    let p1 = c .before in let p2 = p1 .before in let p3 = p2 .before in let p4 = p3 .before in let p5 = p4 .before in let p6 = p5 .before in let p7 = p6 .before in let p8 = p7 .before in let p9 = p8 .before in let p10 = p9 .before in
+    leaf (p10 .if1 .left) (p9 .if2 .left) (sym (p8 .slot-fine .ensures) ∙ not-false _ (p7 .if3 .left)) (rw (p6 .pair .ensures) at (sym (p5 .beats .ensures) ∙ not-false _ (p4 .if4 .left))) (rw (p3 .left .ensures) at (p2 .if5 .left)) (rw (p1 .right .ensures) at (c .if6 .left))
 
 pub place-of-spec : {M : Type 1} → statement M
 place-of-spec =
@@ -63,10 +56,10 @@ place-of-spec =
     (tie.spec
     returns
     returns-2
-    slot-fine-requires
+    (λ c κs. search needs)
     returns-3
     pair-requires
-    beats-requires
+    (λ c κs. search needs)
     returns-4
     left-requires
     returns-5

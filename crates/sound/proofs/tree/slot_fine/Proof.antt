@@ -1,26 +1,24 @@
+-- Each way out is one law. Assumes nothing.
+use Rattle.rule.specs.Shape.{stripeOf}
+use Rattle.sound.proofs.Places.{too-far, near, in-stripe}
 use borrow.Author.Needs.{needs}
 use Rattle.sound.proofs.tree.slot_fine.Statement.{statement}
 use Rattle.sound.proofs.tree.slot_fine.Tie as tie
-use Rattle.sound.proofs.tree.slot_fine.Reads as reads
-use Rattle.sound.proofs.tree.slot_fine.Lts as lts
-use Rattle.cells.proofs.pair.Reads as pair-reads
-use Rattle.rule.proofs.Stripe.holds.Reads as holds-reads
 
--- src/tree.rt:68:9
 returns : tie.Need-returns
-returns c = ?
+returns c =
+    let p2 = c .before .before in
+    too-far _ _ _ (p2 .pre) (c .if1 .taken)
 
--- src/tree.rt:70:9
 pair-requires : tie.Need-pair-requires
-pair-requires c κs = search needs
+pair-requires c κs =
+    let p2 = c .before .before in
+    near _ _ (stripeOf (p2 .args .at)) (p2 .pre) (c .if1 .left)
 
--- src/tree.rt:71:5
-holds-requires : tie.Need-holds-requires
-holds-requires c κs = search needs
-
--- src/tree.rt:63:1
 returns-2 : tie.Need-returns-2
-returns-2 c = ?
+returns-2 c =
+    let p1 = c .before in let p2 = p1 .before in
+    in-stripe _ _ _ _ _ (p2 .if1 .left) (p1 .pair .ensures) (c .holds .ensures)
 
 pub slot-fine-spec : {M : Type 1} → statement M
-slot-fine-spec = tie.close (tie.spec returns pair-requires holds-requires returns-2)
+slot-fine-spec = tie.close (tie.spec returns pair-requires (λ c κs. search needs) returns-2)

@@ -1,0 +1,133 @@
+-- Over a tree, a scan's finding is the closest of each slot's pair and its sons' best. Assumes nothing.
+use mathlib.Core.Path.{_≡_, refl, sym, ap, _∙_}
+use mathlib.Core.Logic.{_≢_, _⊎_, inl, inr}
+use mathlib.Core.Bool.{Bool, true, false, not}
+use mathlib.Core.List.{List, [], _∷_, _++_}
+use native.Mathlib.Omega.{arith}
+use borrow.Author.Tests.{ltb-true, ltb-false, le-ltb}
+use Rattle.rule.specs.declared.Pair.{Pair}
+use Rattle.rule.specs.declared.Finding.{Finding}
+use Rattle.rule.specs.declared.Finding.the-variants.{Found, Nothing}
+use Rattle.rule.specs.Pairs.{beats}
+use Rattle.rule.specs.Plain.{own, closest, scan, smaller, larger}
+use Rattle.rule.specs.Tree.{Tree, none, fork, members, All}
+use Rattle.rule.proofs.Tests.{test, on, clash}
+use Rattle.rule.proofs.Order.{beats-true, false-beats, true-beats, beats-trans, beats-level}
+
+-- which of two is closer: never both ways, carried on where it does not hold, and where neither is closer their x are equal
+pub record Ranks (closer : Pair → Pair → Bool) : Type 0 where
+  pub asym : (p q : Pair) → closer p q ≡ true → closer q p ≡ false
+  pub down : (p q r : Pair) → closer r q ≡ false → closer q p ≡ false → closer r p ≡ false
+  pub tie : (p q : Pair) → closer p q ≡ false → closer q p ≡ false → p .x ≡ q .x
+
+pub by-smaller : Ranks smaller
+by-smaller = record {
+  asym = λ p q e. le-ltb (q .x) (p .x) (omega (arith, ltb-true));
+  down = λ p q r a b. le-ltb (r .x) (p .x) (omega (arith, ltb-false));
+  tie = λ p q a b. omega (arith, ltb-false);
+}
+
+pub by-larger : Ranks larger
+by-larger = record {
+  asym = λ p q e. le-ltb (p .x) (q .x) (omega (arith, ltb-true));
+  down = λ p q r a b. le-ltb (p .x) (r .x) (omega (arith, ltb-false));
+  tie = λ p q a b. omega (arith, ltb-false);
+}
+
+beats-down : (p q r : Pair) → beats r q ≡ false → beats q p ≡ false → beats r p ≡ false
+beats-down p q r a b = on (beats p q)
+    (λ t. on (beats r p) (λ u. absurd (clash (true-beats (beats-trans (beats-true r p u) (beats-true p q t))) a)) (λ u. u))
+    (λ t. ap (beats r) (beats-level p q t b) ∙ a)
+
+pub by-beats : Ranks beats
+by-beats = record {
+  asym = λ p q e. false-beats (beats-true p q e);
+  down = beats-down;
+  tie = λ p q a b. ap (λ p. p .x) (beats-level p q a b);
+}
+
+-- the closest match of a tree
+abbrev pub best : (Pair → Bool) → (Pair → Pair → Bool) → Tree Pair → Finding
+best ok closer none = Nothing
+best ok closer (fork s p l r) = closest closer (own ok p) (closest closer (best ok closer l) (best ok closer r))
+
+-- P holds of what is found, if anything is
+pub data Sat (P : Pair → Type 0) : Finding → Type 0 where
+  sat-none : Sat P Nothing
+  sat-one : {p : Pair} → P p → Sat P (Found p)
+
+-- what holds whatever `closer` is
+module _ (ok : Pair → Bool) (closer : Pair → Pair → Bool) where
+  pub closest-nothing : (f : Finding) → closest closer f Nothing ≡ f
+  closest-nothing Nothing = refl
+  closest-nothing (Found p) = refl
+
+  pub scan-append : (f : Finding) (u v : List Pair) → scan ok closer f (u ++ v) ≡ scan ok closer (scan ok closer f u) v
+  scan-append f [] v = refl
+  scan-append f (p ∷ u) v = scan-append (closest closer f (own ok p)) u v
+
+  pub best-none : (t : Tree Pair) → All (λ q. ok q ≡ false) t → best ok closer t ≡ Nothing
+  best-none none h = refl
+  best-none (fork s p l r) h = rw (h .0, best-none l (h .1), best-none r (h .2))
+
+  module _ (P : Pair → Type 0) where
+    pub closest-sat : {f g : Finding} → Sat P f → Sat P g → Sat P (closest closer f g)
+    closest-sat sat-none k = k
+    closest-sat (sat-one h) sat-none = sat-one h
+    closest-sat (sat-one {p} h) (sat-one {p = q} k) = on (closer q p) (λ e. rw e (sat-one k)) (λ e. rw e (sat-one h))
+
+    own-sat : (p : Pair) → P p → Sat P (own ok p)
+    own-sat p h = on (ok p) (λ e. rw e (sat-one h)) (λ e. rw e sat-none)
+
+    pub best-sat : (t : Tree Pair) → All P t → Sat P (best ok closer t)
+    best-sat none h = sat-none
+    best-sat (fork s p l r) h = closest-sat (own-sat p (h .0)) (closest-sat (best-sat l (h .1)) (best-sat r (h .2)))
+
+  -- the first is kept where nothing of the second is closer; the order of two does not matter where one is the closer
+  pub closest-first : {p : Pair} {g : Finding} → Sat (λ q. closer q p ≡ false) g → closest closer (Found p) g ≡ Found p
+  closest-first sat-none = refl
+  closest-first (sat-one h) = rw h
+
+  pub closest-swap : (p : Pair) {f : Finding} → Sat (λ q. closer q p ≡ not (closer p q)) f
+      → closest closer f (own ok p) ≡ closest closer (own ok p) f
+  closest-swap p sat-none = sym (closest-nothing _)
+  closest-swap p (sat-one {p = q} h) = on (ok p) (λ o. rw o (on (closer p q) (λ e. rw (h, e)) (λ e. rw (h, e)))) (λ o. rw o)
+
+  pub closest-comm : {f g : Finding} → Sat (λ v. Sat (λ w. closer w v ≡ not (closer v w)) g) f → closest closer f g ≡ closest closer g f
+  closest-comm sat-none = sym (closest-nothing _)
+  closest-comm (sat-one sat-none) = refl
+  closest-comm (sat-one {p = v} (sat-one {p = w} h)) = on (closer v w) (λ e. rw (h, e)) (λ e. rw (h, e))
+
+module _ (ok : Pair → Bool) {closer : Pair → Pair → Bool} (R : Ranks closer) where
+  up : (p q r : Pair) → closer r q ≡ true → closer q p ≡ true → closer r p ≡ true
+  up p q r a b = on (closer r p) (λ t. t) (λ f. absurd (clash a (R .down q p r f (R .asym q p b))))
+
+  -- of two with different x one is the closer
+  pub one-way : (p q : Pair) → p .x ≢ q .x → closer q p ≡ not (closer p q)
+  one-way p q d = on (closer p q) (λ e. rw e (R .asym p q e)) (λ e. rw e (on (closer q p) (λ t. t) (λ f. absurd (d (R .tie p q e f)))))
+
+  pub closest-assoc : (f g h : Finding) → closest closer (closest closer f g) h ≡ closest closer f (closest closer g h)
+  closest-assoc Nothing g h = refl
+  closest-assoc (Found p) Nothing h = refl
+  closest-assoc (Found p) (Found q) Nothing = closest-nothing ok closer (closest closer (Found p) (Found q))
+  closest-assoc (Found p) (Found q) (Found r) = go (test (closer q p)) (test (closer r q))
+    where
+      go : (closer q p ≡ true) ⊎ (closer q p ≡ false) → (closer r q ≡ true) ⊎ (closer r q ≡ false)
+          → closest closer (closest closer (Found p) (Found q)) (Found r) ≡ closest closer (Found p) (closest closer (Found q) (Found r))
+      go (inl a) (inl b) = rw (a, b, up p q r b a)
+      go (inl a) (inr b) = rw (a, b, a)
+      go (inr a) (inl b) = rw (a, b)
+      go (inr a) (inr b) = rw (a, b, a, R .down p q r b a)
+
+  scan-from : (f : Finding) (t : Tree Pair) → scan ok closer f (members t) ≡ closest closer f (best ok closer t)
+  scan-from f none = sym (closest-nothing ok closer f)
+  scan-from f (fork s p l r) =
+      let o = own ok p in
+      let b = best ok closer l in
+      let d = best ok closer r in
+      scan-append ok closer (closest closer f o) (members l) (members r)
+      ∙ (scan-from _ r ∙ (ap (λ g. closest closer g d) (scan-from _ l) ∙ (closest-assoc (closest closer f o) b d ∙ closest-assoc f o (closest closer b d))))
+
+  -- law: the scan of a tree's members finds the tree's best
+  pub scan-best : (t : Tree Pair) → scan ok closer Nothing (members t) ≡ best ok closer t
+  scan-best t = scan-from Nothing t
