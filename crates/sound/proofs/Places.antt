@@ -20,9 +20,6 @@ module _ (c : List ℕ) (s : ℕ) (at : Stripe) where
   unfolding slotFine
   too-far o h = rw (lt-leb s (slotsOf c) (omega arith))
 
-  pub near : 1 ≤ s → s < length c / perSlot → Fits c s
-  near o h = omega arith
-
   pub in-stripe : (p : Pair) (b : Bool) → s < length c / perSlot → p ≡ pairAt c s → b ≡ holds at (p .x) → b ≡ slotFine c s at
   unfolding slotFine
   in-stripe p b h e f = rw (le-leb s (slotsOf c) (omega arith)) (rw e at f)
