@@ -13,6 +13,7 @@ pub mod Clauses
 pub mod Leads
 pub mod Decided
 pub mod Fresh
+pub mod Promised
 pub mod Best
 pub mod Scan
 pub mod Outside

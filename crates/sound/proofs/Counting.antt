@@ -26,11 +26,11 @@ use Rattle.sound.specs.declared.tree.Place.{Place}
 use Rattle.sound.specs.declared.tree.Place.the-variants.{Empty, Leaf, Fork, Bad}
 use Rattle.sound.specs.Checked.{counted, fromLink, fromSlot, Stands, empty, leaf, branch, bad, Sought}
 
-was-counted : (b : Bool) (n a : ℕ) → counted b n ≡ Counted a → (b ≡ true) × (n ≡ a)
+pub was-counted : (b : Bool) (n a : ℕ) → counted b n ≡ Counted a → (b ≡ true) × (n ≡ a)
 was-counted true n a h = (refl, cc)
 was-counted false n a h = let z : _≡_ {A = ℕ} 0 1 = cc in absurd (omega arith)
 
-was-faulty : (b : Bool) (n : ℕ) → counted b n ≡ Faulty → b ≡ false
+pub was-faulty : (b : Bool) (n : ℕ) → counted b n ≡ Faulty → b ≡ false
 was-faulty true n h = cc
 was-faulty false n h = refl
 

@@ -4,3 +4,7 @@ pub mod Chaining
 pub mod Searching
 pub mod Places
 pub mod Counting
+pub mod FreeChain
+pub mod Whole
+pub mod Judged
+pub mod Meaning

@@ -1,17 +1,20 @@
 -- What the parts of the check yield.
-use Prim.Native.Nat.{ℕ, _+_}
+use Prim.Native.Nat.{ℕ, _+_, _-_}
 use mathlib.Core.Path.{_≡_}
-use mathlib.Core.Bool.{Bool, true, false, cond}
+use mathlib.Core.Bool.{Bool, true, false, cond, _&&_}
 use mathlib.Core.List.{List}
+use lib.Dec.{leb, eqb}
 use Rattle.rule.specs.declared.Pair.{Pair}
 use Rattle.rule.specs.Pairs.{beats}
 use Rattle.rule.specs.Stripe.{Stripe, Low}
 use Rattle.rule.specs.Tree.{size}
-use Rattle.rule.specs.Cells.{Fits, pairAt, leftAt, rightAt, treeAt}
-use Rattle.rule.specs.Sound.{Leads}
-use Rattle.rule.specs.Test.{slotFine, fine, below}
+use Rattle.rule.specs.Cells.{slotsOf, rootOf, freeOf, countOf, Fits, pairAt, leftAt, rightAt, treeAt}
+use Rattle.rule.specs.Sound.{Leads, allLevels}
+use Rattle.rule.specs.Test.{slotFine, fine, below, rootFine, chainFine}
 use Rattle.sound.specs.declared.tree.Checked.{Checked}
 use Rattle.sound.specs.declared.tree.Checked.the-variants.{Counted, Faulty}
+use Rattle.sound.specs.declared.chain.Verdict.{Verdict}
+use Rattle.sound.specs.declared.chain.Verdict.the-variants.{Sound, Faulty as Unsound}
 use Rattle.sound.specs.declared.tree.Place.{Place}
 use Rattle.sound.specs.declared.tree.Place.the-variants.{Empty, Leaf, Fork, Bad}
 
@@ -26,6 +29,18 @@ fromLink c k p s at = counted (fine c k p s at) (size (treeAt c k s))
 -- from a slot down whose own tests have passed
 unfoldable pub fromSlot : List ℕ → ℕ → ℕ → Stripe → Checked
 fromSlot c k s at = counted (below c k s at) (size (treeAt c k (leftAt c s)) + size (treeAt c k (rightAt c s)) + 1)
+
+-- from the root down
+unfoldable pub fromRoot : List ℕ → Checked
+fromRoot c = counted (rootFine c) (size (treeAt c allLevels (rootOf c)))
+
+-- sound where all is fine, or faulty
+abbrev pub verdict : Bool → Verdict
+verdict ok = cond ok Sound Unsound
+
+-- a tree of so many slots has as many as cell 3 says, and the free chain the remaining ones
+unfoldable pub restVerdict : List ℕ → ℕ → Verdict
+restVerdict c n = verdict (eqb n (countOf c) && leb (countOf c) (slotsOf c) && chainFine c (slotsOf c - countOf c) (freeOf c))
 
 -- what stands at a son's place, where k levels are left: nothing, a slot that passes its own tests, without sons or with, or a fault
 pub data Stands (c : List ℕ) (k : ℕ) (p : Pair) (s : ℕ) (at : Stripe) : Place → Type 0 where

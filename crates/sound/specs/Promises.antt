@@ -1,6 +1,6 @@
 -- What set up and check answer, and what set up leaves, for every pool.
 use Prim.Native.Nat.{ℕ}
-use mathlib.Core.Bool.{not}
+use mathlib.Core.Bool.{cond, not}
 use mathlib.Core.List.{List, [], _∷_}
 use Rattle.rule.specs.declared.Answer.{Answer}
 use Rattle.rule.specs.Answer.{finished}
@@ -8,6 +8,12 @@ use Rattle.rule.specs.Cells.{slotsOf, fresh}
 use Rattle.rule.specs.Codes.{wrongLength, unsound}
 use Rattle.rule.specs.Refusals.{Line, answerBy, Left, leftBy}
 use Rattle.rule.specs.Test.{isPool, isSound}
+use Rattle.sound.specs.declared.Health.{Health}
+use Rattle.sound.specs.declared.Health.the-variants.{Sound, Unsound, WrongLength}
+
+-- whether a pool is sound, or what is wrong with it
+unfoldable pub healthOf : List ℕ → Health
+healthOf c = cond (isPool c) (cond (isSound c) Sound Unsound) WrongLength
 
 -- the pool's length is not 4(n + 1) with n 1 to 4,095
 abbrev pub lengthLine : List ℕ → Line

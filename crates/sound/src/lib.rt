@@ -1,9 +1,12 @@
 // Set up and check: the two calls that accept any cells at all.
+mod chain;
 mod tree;
 
+use chain::Verdict;
 use rule::Answer;
 use rule::Outcome;
 use rule::codes;
+use tree::Checked;
 ghost use mathlib.Core.Path.{_≡_};
 ghost use Prim.Native.Nat.{ℕ, suc, _+_, _*_, _-_, _≤_, _<_};
 ghost use lib.ListN.{length};
@@ -11,8 +14,8 @@ ghost use Rattle.rule.specs.Answer.{finished, refused};
 ghost use Rattle.rule.specs.Cells.{perSlot, slotsOf, fresh};
 ghost use Rattle.rule.specs.Refusals.{Leaves};
 ghost use Rattle.rule.specs.Sound.{Pool};
-ghost use Rattle.rule.specs.Test.{isPool};
-ghost use Rattle.sound.specs.Promises.{setUp};
+ghost use Rattle.rule.specs.Test.{isPool, isSound};
+ghost use Rattle.sound.specs.Promises.{setUp, checked, healthOf};
 
 // The answer of a call that is done.
 pub fn finished() -> Answer
@@ -78,4 +81,55 @@ pub fn set_up(pool: &mut [u32]) -> Answer
         return finished();
     }
     refused(codes::LENGTH)
+}
+
+// Whether a pool is sound, or what is wrong with it.
+pub enum Health {
+    Sound,
+    Unsound,
+    WrongLength,
+}
+
+// The tree and the chain of a pool whose length and mark are right.
+fn is_sound(pool: &[u32]) -> bool
+    requires { ⌜ Pool (now pool) ⌝ }
+    ensures { λ r. ⌜ r ≡ isSound (now (pool .entry)) ⌝ }
+{
+    if cells::mark(pool) != cells::MARK {
+        return false;
+    }
+    let root = tree::check_root(pool);
+    let Checked::Counted(size) = root else {
+        return false;
+    };
+    let rest = chain::check_rest(pool, size);
+    match rest {
+        Verdict::Sound => true,
+        Verdict::Faulty => false,
+    }
+}
+
+// The check, for the calls that go on with a sound pool.
+pub fn health_of(pool: &[u32]) -> Health
+    ensures { λ r. ⌜ r ≡ healthOf (now (pool .entry)) ⌝ }
+{
+    if !is_pool(pool) {
+        return Health::WrongLength;
+    }
+    if is_sound(pool) {
+        return Health::Sound;
+    }
+    Health::Unsound
+}
+
+// Says whether a pool is sound, or gives the code of what is wrong.
+pub fn check(pool: &[u32]) -> Answer
+    ensures { λ r. ⌜ r ≡ checked (now (pool .entry)) ⌝ }
+{
+    let h = health_of(pool);
+    match h {
+        Health::Sound => finished(),
+        Health::Unsound => refused(codes::UNSOUND),
+        Health::WrongLength => refused(codes::LENGTH),
+    }
 }

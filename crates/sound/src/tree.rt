@@ -5,12 +5,12 @@ ghost use mathlib.Core.Path.{_≡_};
 ghost use mathlib.Core.Bool.{not};
 ghost use Prim.Native.Nat.{_≤_};
 ghost use Rattle.rule.specs.Changes.{met};
-ghost use Rattle.rule.specs.Cells.{Fits, treeAt, leftAt, rightAt};
+ghost use Rattle.rule.specs.Cells.{Fits, treeAt};
 ghost use Rattle.rule.specs.Shape.{stripeOf};
-ghost use Rattle.rule.specs.Sound.{itself};
+ghost use Rattle.rule.specs.Sound.{itself, Pool};
 ghost use Rattle.rule.specs.Stripe.{Low};
 ghost use Rattle.rule.specs.Test.{alone, slotFine};
-ghost use Rattle.sound.specs.Checked.{fromLink, fromSlot, Stands, Sought};
+ghost use Rattle.sound.specs.Checked.{fromLink, fromSlot, fromRoot, Stands, Sought};
 
 // The slots from a place down, or that one is faulty.
 pub enum Checked {
@@ -60,7 +60,7 @@ fn again(pool: &[u32], levels: u32, left: u32, right: u32, at: Stripe, x: u32) -
 }
 
 // Whether a slot's number is one of the pool's, and its x lies in its stripe.
-pub fn slot_fine(pool: &[u32], slot: u32, at: Stripe) -> bool
+fn slot_fine(pool: &[u32], slot: u32, at: Stripe) -> bool
     requires { ⌜ 1 ≤ slot ⌝ }
     ensures { λ r. ⌜ r ≡ slotFine (now (pool .entry)) slot (stripeOf at) ⌝ }
 {
@@ -97,7 +97,7 @@ fn place_of(pool: &[u32], levels: u32, p: Pair, son: u32, at: Stripe) -> Place
 }
 
 // From a slot down whose own tests have passed, with so many levels below it.
-pub fn check_slot(pool: &[u32], levels: u32, slot: u32, at: Stripe) -> Checked
+fn check_slot(pool: &[u32], levels: u32, slot: u32, at: Stripe) -> Checked
     requires { ⌜ Fits (now pool) slot × (levels ≤ 32) × Low (stripeOf at) ⌝ }
     ensures { λ r. ⌜ r ≡ fromSlot (now (pool .entry)) levels slot (stripeOf at) ⌝ }
 {
@@ -128,4 +128,19 @@ fn check_son(pool: &[u32], levels: u32, p: Pair, son: u32, at: Stripe) -> Checke
         Place::Fork => check_slot(pool, levels - 1, son, at),
         Place::Bad => Checked::Faulty,
     }
+}
+
+// From the root down: it has no father.
+pub fn check_root(pool: &[u32]) -> Checked
+    requires { ⌜ Pool (now pool) ⌝ }
+    ensures { λ r. ⌜ r ≡ fromRoot (now (pool .entry)) ⌝ }
+{
+    let root = cells::root(pool);
+    if root == 0 {
+        return Checked::Counted(0);
+    }
+    if !slot_fine(pool, root, Stripe::root()) {
+        return Checked::Faulty;
+    }
+    check_slot(pool, Stripe::LEVELS, root, Stripe::root())
 }
