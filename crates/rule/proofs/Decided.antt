@@ -160,7 +160,7 @@ module _ (c : List ℕ) where
       ) (new-alone (v .x) rootStripe l r (under-new itself v l (w .over-left)) (under-new itself v r (w .over-right)))
 
   -- the free chain
-  free-true : (s : ℕ) → isFree c s ≡ true → Free c s
+  pub free-true : (s : ℕ) → isFree c s ≡ true → Free c s
   unfolding isFree
   free-true s h =
       let a = all-three (eqb (pairAt c s .x) 0) (eqb (pairAt c s .y) 0) (eqb (leftAt c s) freeMark) h in

@@ -13,6 +13,16 @@ pub mod Clauses
 pub mod Leads
 pub mod Decided
 pub mod Fresh
+pub mod Pigeonhole
+pub mod Standing
+pub mod Agreement
+pub mod Slots
+pub mod Stored
+pub mod Laying
+pub mod Changed
+pub mod Inserted
+pub mod Deleted
+pub mod TakenBack
 pub mod Promised
 pub mod Best
 pub mod Scan
