@@ -1,6 +1,7 @@
 -- The laws that the crates above cite.
 pub mod Tests
 pub mod Order
+pub mod Stripes
 pub mod Trees
 pub mod GoDown
 pub mod TakeOut

@@ -19,12 +19,13 @@ use Rattle.rule.specs.Test.{slotFine, alone, fine, below}
 use Rattle.rule.proofs.Tests.{both, and-false}
 use Rattle.rule.proofs.Leads.{back, tree-none, tree-fork, few}
 use Rattle.rule.proofs.Decided.{fine-true}
+use Rattle.halving.specs.Sought.{Sought}
 use Rattle.sound.proofs.Places.{fine-fits}
 use Rattle.sound.specs.declared.tree.Checked.{Checked}
 use Rattle.sound.specs.declared.tree.Checked.the-variants.{Counted, Faulty}
 use Rattle.sound.specs.declared.tree.Place.{Place}
 use Rattle.sound.specs.declared.tree.Place.the-variants.{Empty, Leaf, Fork, Bad}
-use Rattle.sound.specs.Checked.{counted, fromLink, fromSlot, Stands, empty, leaf, branch, bad, Sought}
+use Rattle.sound.specs.Checked.{counted, fromLink, fromSlot, Stands, empty, leaf, branch, bad}
 
 pub was-counted : (b : Bool) (n a : ℕ) → counted b n ≡ Counted a → (b ≡ true) × (n ≡ a)
 was-counted true n a h = (refl, cc)

@@ -1,7 +1,7 @@
 -- The laws that the proofs of the functions cite, and what the two calls mean.
 pub mod Lengths
 pub mod Chaining
-pub mod Searching
+pub mod Sides
 pub mod Places
 pub mod Counting
 pub mod FreeChain

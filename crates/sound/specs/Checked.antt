@@ -6,10 +6,10 @@ use mathlib.Core.List.{List}
 use lib.Dec.{leb, eqb}
 use Rattle.rule.specs.declared.Pair.{Pair}
 use Rattle.rule.specs.Pairs.{beats}
-use Rattle.rule.specs.Stripe.{Stripe, Low}
+use Rattle.rule.specs.Stripe.{Stripe}
 use Rattle.rule.specs.Tree.{size}
-use Rattle.rule.specs.Cells.{slotsOf, rootOf, freeOf, countOf, Fits, pairAt, leftAt, rightAt, treeAt}
-use Rattle.rule.specs.Sound.{Leads, allLevels}
+use Rattle.rule.specs.Cells.{slotsOf, rootOf, freeOf, countOf, pairAt, leftAt, rightAt, treeAt}
+use Rattle.rule.specs.Sound.{allLevels}
 use Rattle.rule.specs.Test.{slotFine, fine, below, rootFine, chainFine}
 use Rattle.sound.specs.declared.tree.Checked.{Checked}
 use Rattle.sound.specs.declared.tree.Checked.the-variants.{Counted, Faulty}
@@ -48,8 +48,3 @@ pub data Stands (c : List ℕ) (k : ℕ) (p : Pair) (s : ℕ) (at : Stripe) : Pl
   leaf : (s ≡ 0 → ⊥) → (k ≡ 0 → ⊥) → slotFine c s at ≡ true → beats p (pairAt c s) ≡ true → leftAt c s ≡ 0 → rightAt c s ≡ 0 → Stands c k p s at Leaf
   branch : (s ≡ 0 → ⊥) → (k ≡ 0 → ⊥) → slotFine c s at ≡ true → beats p (pairAt c s) ≡ true → Stands c k p s at Fork
   bad : fine c k p s at ≡ false → Stands c k p s at Bad
-
--- what a search below a slot may rely on
-pub record Sought (c : List ℕ) (k s : ℕ) (at : Stripe) : Type 0 where
-  pub leads : Leads c s (treeAt c k s)
-  pub low : Low at

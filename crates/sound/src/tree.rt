@@ -4,13 +4,13 @@ use rule::Stripe;
 ghost use mathlib.Core.Path.{_≡_};
 ghost use mathlib.Core.Bool.{not};
 ghost use Prim.Native.Nat.{_≤_};
-ghost use Rattle.rule.specs.Changes.{met};
 ghost use Rattle.rule.specs.Cells.{Fits, treeAt};
 ghost use Rattle.rule.specs.Shape.{stripeOf};
-ghost use Rattle.rule.specs.Sound.{itself, Pool};
+ghost use Rattle.rule.specs.Sound.{Pool};
 ghost use Rattle.rule.specs.Stripe.{Low};
 ghost use Rattle.rule.specs.Test.{alone, slotFine};
-ghost use Rattle.sound.specs.Checked.{fromLink, fromSlot, fromRoot, Stands, Sought};
+ghost use Rattle.sound.specs.Checked.{fromLink, fromSlot, fromRoot, Stands};
+ghost use Rattle.halving.specs.Sought.{Sought};
 
 // The slots from a place down, or that one is faulty.
 pub enum Checked {
@@ -26,37 +26,15 @@ pub enum Place {
     Bad,
 }
 
-// Whether x is met from a place down, looked for by halving the stripe.
-fn met(pool: &[u32], levels: u32, slot: u32, at: Stripe, x: u32) -> bool
-    requires { ⌜ Sought (now pool) levels slot (stripeOf at) ⌝ }
-    ensures { λ r. ⌜ r ≡ met itself x (stripeOf at) (treeAt (now (pool .entry)) levels slot) ⌝ }
-{
-    let mut place = slot;
-    let mut part = at;
-    let mut left = levels;
-    loop {
-        if place == 0 {
-            break false;
-        }
-        let p = cells::pair(pool, place);
-        if p.x == x {
-            break true;
-        }
-        place = cells::son(pool, place, part.goes_left(x));
-        part = part.towards(x);
-        left -= 1;
-    }
-}
-
 // Whether a slot's x is met below it.
 fn again(pool: &[u32], levels: u32, left: u32, right: u32, at: Stripe, x: u32) -> bool
     requires { ⌜ Sought (now pool) levels left (stripeOf at) × Sought (now pool) levels right (stripeOf at) ⌝ }
     ensures { λ r. ⌜ not r ≡ alone x (stripeOf at) (treeAt (now (pool .entry)) levels left) (treeAt (now (pool .entry)) levels right) ⌝ }
 {
     if at.goes_left(x) {
-        return met(pool, levels, left, at.left(), x);
+        return halving::met(pool, levels, left, at.left(), x);
     }
-    met(pool, levels, right, at.right(), x)
+    halving::met(pool, levels, right, at.right(), x)
 }
 
 // Whether a slot's number is one of the pool's, and its x lies in its stripe.

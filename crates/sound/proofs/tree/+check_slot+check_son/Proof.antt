@@ -2,7 +2,7 @@
 use mathlib.Core.Path.{_∙_}
 use Prim.Native.Nat.{ℕ, _+_, _*_, _<_}
 use native.Mathlib.Omega.{arith}
-use Rattle.sound.proofs.Searching.{low-left, low-right}
+use Rattle.rule.proofs.Stripes.{low-left, low-right}
 use Rattle.sound.proofs.Counting.{son-empty, son-leaf, son-bad, son-fork, fork-fits, fork-there, left-faulty, right-faulty, again-faulty, both-counted, may-search, few-counted}
 use borrow.Author.Needs.{needs}
 use borrow.Fn.Kinds.{In}

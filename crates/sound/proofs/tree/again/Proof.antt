@@ -1,5 +1,6 @@
 -- The side that is looked at is the definition's. Assumes nothing.
-use Rattle.sound.proofs.Searching.{low-left, low-right, alone-left, alone-right}
+use Rattle.rule.proofs.Stripes.{low-left, low-right}
+use Rattle.sound.proofs.Sides.{alone-left, alone-right}
 use borrow.Author.Needs.{needs}
 use Rattle.sound.proofs.tree.again.Statement.{statement}
 use Rattle.sound.proofs.tree.again.Tie as tie

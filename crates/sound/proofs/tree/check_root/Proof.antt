@@ -1,6 +1,7 @@
 -- The root's own tests, then its sons. Assumes nothing.
 use native.Mathlib.Omega.{arith}
 use borrow.Author.Tests.{not-true, not-false}
+use Rattle.rule.proofs.Stripes.{low-root}
 use Rattle.sound.proofs.Places.{fine-fits}
 use Rattle.sound.proofs.Whole.{no-root, bad-root, good-root}
 use borrow.Author.Needs.{needs}
@@ -18,7 +19,7 @@ returns-2 c =
     bad-root _ _ (p4 .root .ensures) (p3 .if1 .left) _ _ (p2 .root2 .ensures) (p1 .slot-fine .ensures) (not-true _ (c .if2 .taken))
 
 check-slot-requires : tie.Need-check-slot-requires
-check-slot-requires c κs = (fine-fits _ _ _ _ (omega (arith, c .before .before .before .before .if1 .left)) (c .before .before .slot-fine .ensures) (not-false _ (c .before .if2 .left)), omega arith, rw (c .root3 .ensures) (record { lower = omega arith; upper = omega arith }))
+check-slot-requires c κs = (fine-fits _ _ _ _ (omega (arith, c .before .before .before .before .if1 .left)) (c .before .before .slot-fine .ensures) (not-false _ (c .before .if2 .left)), omega arith, low-root (c .root3 .ensures))
 
 returns-3 : tie.Need-returns-3
 returns-3 c =

@@ -5,11 +5,11 @@ use Rattle.rule.specs.Changes.{met}
 use Rattle.rule.specs.Cells.{treeAt}
 use Rattle.rule.specs.Shape.{stripeOf}
 use Rattle.rule.specs.Sound.{itself}
-use Rattle.sound.specs.Checked.{Sought}
-use Rattle.sound.proofs.Searching.{ends-here, there, deep, hit, goes-on, sought-on}
+use Rattle.halving.specs.Sought.{Sought}
+use Rattle.halving.proofs.Searching.{ends-here, there, deep, hit, goes-on, sought-on}
 use borrow.Author.Needs.{needs}
-use Rattle.sound.proofs.tree.met.Statement.{statement}
-use Rattle.sound.proofs.tree.met.Tie as tie
+use Rattle.halving.proofs.met.Statement.{statement}
+use Rattle.halving.proofs.met.Tie as tie
 
 abbrev Inv-loop : tie.InvT-loop
 Inv-loop pool levels slot x place₀ part₀ left₀ place part left =

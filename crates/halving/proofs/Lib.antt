@@ -1,0 +1,2 @@
+-- The laws that the proof of the search cites.
+pub mod Searching
