@@ -3,7 +3,7 @@ use rule::Pair;
 ghost use mathlib.Core.Path.{_≡_};
 ghost use Prim.Native.Nat.{_≤_};
 ghost use lib.ListN.{length, set};
-ghost use Rattle.rule.specs.Cells.{Fits, markOf, rootOf, freeOf, countOf, pairAt, leftAt, rightAt, sonAt, putPair, putLinks, putFree, putHeader};
+ghost use Rattle.rule.specs.Cells.{Fits, markOf, rootOf, freeOf, countOf, pairAt, leftAt, rightAt, sonAt, linkCell, putPair, putLinks, putFree, putHeader};
 
 pub const PER_SLOT: usize = 4;
 
@@ -11,6 +11,9 @@ pub const MARK: u32 = 1;
 
 // What a free slot has for its left link.
 pub const FREE: u32 = 4294967295;
+
+// The cell of the link to the root.
+pub const ROOT_CELL: usize = 1;
 
 pub fn mark(pool: &[u32]) -> u32
     requires { ⌜ Fits (now pool) 0 ⌝ }
@@ -76,6 +79,17 @@ pub fn son(pool: &[u32], slot: u32, leftward: bool) -> u32
     right(pool, slot)
 }
 
+// The cell of the link to the left son, or to the right one.
+pub fn link_cell(slot: u32, leftward: bool) -> usize
+    ensures { λ r. ⌜ r ≡ linkCell slot leftward ⌝ }
+{
+    let at = slot as usize * PER_SLOT;
+    if leftward {
+        return at + 2;
+    }
+    at + 3
+}
+
 pub fn put_pair(pool: &mut [u32], slot: u32, p: Pair)
     requires { ⌜ Fits (now pool) slot ⌝ }
     ensures { λ _. ⌜ now (pool .exit) ≡ putPair (now (pool .entry)) slot p ⌝ }
@@ -110,5 +124,19 @@ pub fn put_header(pool: &mut [u32], root: u32, free: u32, count: u32)
     pool[0] = MARK;
     pool[1] = root;
     pool[2] = free;
+    pool[3] = count;
+}
+
+pub fn put_first_free(pool: &mut [u32], slot: u32)
+    requires { ⌜ Fits (now pool) 0 ⌝ }
+    ensures { λ _. ⌜ now (pool .exit) ≡ set (now (pool .entry)) 2 slot ⌝ }
+{
+    pool[2] = slot;
+}
+
+pub fn put_count(pool: &mut [u32], count: u32)
+    requires { ⌜ Fits (now pool) 0 ⌝ }
+    ensures { λ _. ⌜ now (pool .exit) ≡ set (now (pool .entry)) 3 count ⌝ }
+{
     pool[3] = count;
 }

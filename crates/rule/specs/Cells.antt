@@ -50,6 +50,10 @@ rightAt c s = getD c (s * perSlot + 3) 0
 unfoldable pub sonAt : List ℕ → ℕ → Bool → ℕ
 sonAt c s left = cond left (leftAt c s) (rightAt c s)
 
+-- the cell that holds it
+unfoldable pub linkCell : ℕ → Bool → ℕ
+linkCell s left = cond left (s * perSlot + 2) (s * perSlot + 3)
+
 -- the cells with slot s written anew: its pair, its links
 abbrev pub putPair : List ℕ → ℕ → Pair → List ℕ
 putPair c s p = set (set c (s * perSlot) (p .x)) (s * perSlot + 1) (p .y)

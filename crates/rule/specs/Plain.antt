@@ -1,8 +1,8 @@
 -- A book as a plain list of pairs, gone through from top to bottom: what each question finds. Nothing of the tree stands here.
 use Prim.Native.Nat.{ℕ}
-use mathlib.Core.Bool.{Bool, cond, _&&_}
+use mathlib.Core.Bool.{Bool, false, cond, _&&_, _||_}
 use mathlib.Core.List.{List, [], _∷_}
-use lib.Dec.{ltb, leb}
+use lib.Dec.{ltb, leb, eqb}
 use Rattle.rule.specs.declared.Pair.{Pair}
 use Rattle.rule.specs.declared.Limits.{Limits}
 use Rattle.rule.specs.declared.Finding.{Finding}
@@ -56,3 +56,13 @@ smallestYOf x0 x1 ps = scan (inRange x0 x1) beats Nothing ps
 abbrev pub those : (Pair → Bool) → List Pair → List Pair
 those ok [] = []
 those ok (p ∷ ps) = let rest = those ok ps in cond (ok p) (p ∷ rest) rest
+
+-- some pair of the list has this x
+unfoldable pub hasX : ℕ → List Pair → Bool
+hasX x [] = false
+hasX x (p ∷ ps) = eqb (p .x) x || hasX x ps
+
+-- the pair stands in the list
+unfoldable pub has : Pair → List Pair → Bool
+has q [] = false
+has q (p ∷ ps) = (eqb (p .x) (q .x) && eqb (p .y) (q .y)) || has q ps

@@ -1,0 +1,6 @@
+// Deletion.
+pub enum Removal {
+    Done,
+    Missing,
+    Other,
+}
