@@ -1,0 +1,6 @@
+-- What the promises mean.
+pub mod Views
+pub mod Changes
+pub mod TakenBack
+pub mod Questions
+pub mod Played

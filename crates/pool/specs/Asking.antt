@@ -1,0 +1,81 @@
+-- What the four questions answer, for every pool and all numbers: the finding is that of a plain scan of the stored list, the visits are the walk's.
+use Prim.Native.Nat.{ℕ, _*_, _/_}
+use mathlib.Core.List.{List, [], _∷_, _++_}
+use lib.Dec.{ltb}
+use lib.ListN.{length, take, drop}
+use Rattle.rule.specs.declared.Answer.{Answer}
+use Rattle.rule.specs.declared.Finding.{Finding}
+use Rattle.rule.specs.declared.Finding.the-variants.{Found as found-pair, Nothing as no-pair}
+use Rattle.rule.specs.declared.Limits.{Limits}
+use Rattle.rule.specs.declared.Outcome.{Outcome}
+use Rattle.rule.specs.declared.Outcome.the-variants.{Found, Nothing, Listed}
+use Rattle.rule.specs.declared.Pair.{Pair}
+use Rattle.rule.specs.Cells.{rootOf, stored, treeAt}
+use Rattle.rule.specs.Codes as codes
+use Rattle.rule.specs.Plain.{matches, those, smallestXOf, largestXOf, smallestYOf}
+use Rattle.rule.specs.Refusals.{Line, answerBy, Left, leftBy}
+use Rattle.rule.specs.Sound.{allLevels}
+use Rattle.rule.specs.Stripe.{rootStripe}
+use Rattle.rule.specs.Tree.{Tree, members}
+use Rattle.rule.specs.Walks.{smallestX, largestX, smallestY, listing}
+use Rattle.sound.specs.Promises.{lengthLine, soundLine}
+
+-- the tree that a pool holds
+abbrev pub treeOf : List ℕ → Tree Pair
+treeOf c = treeAt c allLevels (rootOf c)
+
+-- x0 > x1
+abbrev pub backwardsLine : ℕ → ℕ → Line
+backwardsLine x0 x1 = record { code = codes.backwards; when = ltb x1 x0 }
+
+abbrev pub outcomeOf : Finding → Outcome
+outcomeOf (found-pair p) = Found p
+outcomeOf no-pair = Nothing
+
+-- a finding, with the visits beside it
+abbrev pub answered : Finding → ℕ → Answer
+answered f v = record { outcome = outcomeOf f; visits = v }
+
+unfoldable pub smallestXAnswer : List ℕ → Limits → Answer
+smallestXAnswer c q =
+    answerBy (lengthLine c ∷ soundLine c ∷ backwardsLine (q .x0) (q .x1) ∷ [])
+    (answered (smallestXOf q (stored c)) (smallestX q rootStripe (treeOf c) .visits))
+
+unfoldable pub largestXAnswer : List ℕ → Limits → Answer
+largestXAnswer c q =
+    answerBy (lengthLine c ∷ soundLine c ∷ backwardsLine (q .x0) (q .x1) ∷ [])
+    (answered (largestXOf q (stored c)) (largestX q rootStripe (treeOf c) .visits))
+
+unfoldable pub smallestYAnswer : List ℕ → ℕ → ℕ → Answer
+smallestYAnswer c x0 x1 =
+    answerBy (lengthLine c ∷ soundLine c ∷ backwardsLine x0 x1 ∷ [])
+    (answered (smallestYOf x0 x1 (stored c)) (smallestY x0 x1 rootStripe (treeOf c) .visits))
+
+-- how many pairs a lent slice has room for
+abbrev pub roomOf : List ℕ → ℕ
+roomOf out = length out / 2
+
+-- the matches in walk order: father, left, right
+abbrev pub matchesOf : List ℕ → Limits → List Pair
+matchesOf c q = those (matches q) (members (treeOf c))
+
+-- two cells each, x and y
+abbrev pub flat : List Pair → List ℕ
+flat [] = []
+flat (p ∷ ps) = p .x ∷ p .y ∷ flat ps
+
+-- the pairs written from the slice's start; every other cell stands as it was
+abbrev pub written : List Pair → List ℕ → List ℕ
+written ps out = flat ps ++ drop (length (flat ps)) out
+
+-- the first matches in walk order, as many as there is room for, and whether there are more
+unfoldable pub listingLeft : List ℕ → Limits → List ℕ → Left
+listingLeft c q out =
+    let ps : List Pair = take (roomOf out) (matchesOf c q) in
+    leftBy (lengthLine c ∷ soundLine c ∷ backwardsLine (q .x0) (q .x1) ∷ []) out (record {
+      cells = written ps out;
+      answer = record {
+        outcome = Listed (length ps) (ltb (roomOf out) (length (matchesOf c q)));
+        visits = listing q rootStripe (treeOf c) (roomOf out) .visits;
+      };
+    })

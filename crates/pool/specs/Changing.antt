@@ -1,0 +1,37 @@
+-- What insert and delete answer, and what each cell then holds, for every pool and all numbers.
+use Prim.Native.Nat.{ℕ}
+use mathlib.Core.Bool.{not}
+use mathlib.Core.List.{List, [], _∷_}
+use lib.Dec.{eqb}
+use Rattle.rule.specs.declared.Pair.{Pair}
+use Rattle.rule.specs.Answer.{finished}
+use Rattle.rule.specs.Cells.{freeOf, stored}
+use Rattle.rule.specs.Codes as codes
+use Rattle.rule.specs.Laid.{inserted, deleted}
+use Rattle.rule.specs.Plain.{hasX, has}
+use Rattle.rule.specs.Refusals.{Line, Left, leftBy}
+use Rattle.sound.specs.Promises.{lengthLine, soundLine}
+
+-- x is stored, with whatever y
+abbrev pub takenLine : List ℕ → Pair → Line
+takenLine c p = record { code = codes.taken; when = hasX (p .x) (stored c) }
+
+-- no free slot
+abbrev pub fullLine : List ℕ → Line
+fullLine c = record { code = codes.full; when = eqb (freeOf c) 0 }
+
+-- x is not stored
+abbrev pub missingLine : List ℕ → Pair → Line
+missingLine c p = record { code = codes.missing; when = not (hasX (p .x) (stored c)) }
+
+-- x is stored with another y
+abbrev pub otherLine : List ℕ → Pair → Line
+otherLine c p = record { code = codes.other; when = not (has p (stored c)) }
+
+unfoldable pub insertion : List ℕ → Pair → Left
+insertion c p =
+    leftBy (lengthLine c ∷ soundLine c ∷ takenLine c p ∷ fullLine c ∷ []) c (record { cells = inserted c p; answer = finished })
+
+unfoldable pub deletion : List ℕ → Pair → Left
+deletion c p =
+    leftBy (lengthLine c ∷ soundLine c ∷ missingLine c p ∷ otherLine c p ∷ []) c (record { cells = deleted c (p .x); answer = finished })

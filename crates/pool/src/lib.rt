@@ -1,0 +1,1 @@
+// The calls over a pool.
