@@ -20,6 +20,7 @@ use Rattle.rule.specs.Sound.{Sound, Chain, ends, next}
 use Rattle.rule.specs.Tree.{Differs, Apart}
 use Rattle.rule.proofs.Tests.{on, clash}
 use Rattle.rule.proofs.Counts.{those-count}
+use Rattle.rule.proofs.Those.{those-all, those-mem, those-apart}
 use Rattle.rule.proofs.Decided.{true-pool, test-sound, sound-test}
 use Rattle.rule.proofs.Fresh.{fresh-sound, fresh-stored, fresh-slots}
 use Rattle.rule.proofs.Having.{hasX-true, true-hasX, has-true, true-has}
@@ -59,10 +60,6 @@ has-alike p ps qs h = on (has p ps)
     (λ e. e ∙ sym (true-has p qs (h p .0 (has-true p ps e))))
     (λ e. on (has p qs) (λ f. absurd (clash (true-has p ps (h p .1 (has-true p qs f))) e)) (λ f. e ∙ sym f))
 
-those-all : (ps : List Pair) → those (λ q. true) ps ≡ ps
-those-all [] = refl
-those-all (p ∷ ps) = ap (λ l. p ∷ l) (those-all ps)
-
 length-alike : (ps qs : List Pair) → Apart (map (λ p. p .x) ps) → Apart (map (λ p. p .x) qs) → Alike ps qs → length ps ≡ length qs
 length-alike ps qs a b h = rw (those-all ps, those-all qs) at (those-count (λ q. true) ps qs a b h)
 
@@ -73,35 +70,6 @@ differs-of x [] h = tt
 differs-of x (p ∷ ps) h = on (eqb (p .x) x)
     (λ e. absurd (clash (rw e) h))
     (λ e. let g : hasX x ps ≡ false = rw e at h in (λ d. eqb-false (p .x) x e (sym d), differs-of x ps g))
-
--- a list with one pair less
-module _ (x : ℕ) where
-  left-out : (q : Pair) → Bool
-  left-out q = not (eqb (q .x) x)
-
-  mem-without : (q : Pair) (ps : List Pair) → List·Memᴰ q (without x ps) → List·Memᴰ q ps × (q .x ≡ x → ⊥)
-  mem-without q [] m = elim m [ ]
-  mem-without q (p ∷ ps) m = on (eqb (p .x) x)
-      (λ e. let m′ : List·Memᴰ q (without x ps) = rw e at m in let r = mem-without q ps m′ in (List·Memᴰ·tail (r .0), r .1))
-      (λ e. let m′ : List·Memᴰ q (p ∷ without x ps) = rw e at m in
-      ⊎-elim (λ d. (List·Memᴰ·head d, λ f. eqb-false (p .x) x e (ap (λ q. q .x) (sym d) ∙ f))) (λ k. let r = mem-without q ps k in (List·Memᴰ·tail (r .0), r .1))
-      (List·Memᴰ·cases-cons m′))
-
-  without-mem : (q : Pair) (ps : List Pair) → List·Memᴰ q ps → (q .x ≡ x → ⊥) → List·Memᴰ q (without x ps)
-  without-mem q [] m n = elim m [ ]
-  without-mem q (p ∷ ps) (List·Memᴰ·head d) n = rw (ne-eqb (p .x) x (λ e. n (ap (λ q. q .x) d ∙ e))) (List·Memᴰ·head d)
-  without-mem q (p ∷ ps) (List·Memᴰ·tail m) n = let r = without-mem q ps m n in on (eqb (p .x) x) (λ e. rw e r) (λ e. rw e (List·Memᴰ·tail r))
-
-  differs-without : (z : ℕ) (ps : List Pair) → Differs z (map (λ p. p .x) ps) → Differs z (map (λ p. p .x) (without x ps))
-  differs-without z [] d = tt
-  differs-without z (p ∷ ps) d = let r = differs-without z ps (d .1) in on (eqb (p .x) x) (λ e. rw e r) (λ e. rw e (d .0, r))
-
-  apart-without : (ps : List Pair) → Apart (map (λ p. p .x) ps) → Apart (map (λ p. p .x) (without x ps))
-  apart-without [] a = tt
-  apart-without (p ∷ ps) a =
-      let r = apart-without ps (a .1) in
-      let d = differs-without (p .x) ps (a .0) in
-      on (eqb (p .x) x) (λ e. rw e r) (λ e. rw e (d, r))
 
 module _ (c : List ℕ) (b : Book) (h : Same c b) where
   abbrev s : Sound c
@@ -178,11 +146,11 @@ module _ (c : List ℕ) (b : Book) (h : Same c b) where
           record {
             sound = deleted-sound s p k;
             alike = λ q. (
-              λ i. without-mem (p .x) q (b .pairs) (h .alike q .0 (m q .1 (inr i))) (λ d. g q i (sym d)),
-              λ i. let r = mem-without (p .x) q (b .pairs) i in
-                  ⊎-elim (λ d. absurd (r .1 (ap (λ q. q .x) d))) (λ j. j) (m q .0 (h .alike q .1 (r .0))),
+              λ i. those-mem _ q (b .pairs) .1 (h .alike q .0 (m q .1 (inr i)), ap not (ne-eqb (q .x) (p .x) (λ d. g q i (sym d)))),
+              λ i. let r = those-mem _ q (b .pairs) .0 i in
+                  ⊎-elim (λ d. absurd (eqb-false _ _ (not-true _ (r .1)) (ap (λ q. q .x) d))) (λ j. j) (m q .0 (h .alike q .1 (r .0))),
             );
-            apart = apart-without (p .x) (b .pairs) (h .apart);
+            apart = those-apart _ (b .pairs) (h .apart);
             room = rw l e;
           }
 

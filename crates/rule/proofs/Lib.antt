@@ -18,6 +18,7 @@ pub mod Pigeonhole
 pub mod Standing
 pub mod Agreement
 pub mod Slots
+pub mod Those
 pub mod Having
 pub mod Stored
 pub mod Laying

@@ -1,0 +1,43 @@
+-- The pairs of a list for which a test holds: which they are, and that each stands there once. Assumes nothing.
+use Prim.Native.Nat.{ℕ}
+use mathlib.Core.Path.{_≡_, refl, sym, ap, _∙_}
+use mathlib.Core.Logic.{_↔_, ⊎-elim}
+use mathlib.Core.Bool.{Bool, true, false}
+use mathlib.Core.List.{List, [], _∷_, map, List·Memᴰ, List·Memᴰ·head, List·Memᴰ·tail, List·Memᴰ·cases-cons}
+use Rattle.rule.specs.declared.Pair.{Pair}
+use Rattle.rule.specs.Plain.{those}
+use Rattle.rule.specs.Tree.{Differs, Apart}
+use Rattle.rule.proofs.Tests.{on, clash}
+
+pub those-all : (ps : List Pair) → those (λ q. true) ps ≡ ps
+those-all [] = refl
+those-all (p ∷ ps) = ap (λ l. p ∷ l) (those-all ps)
+
+module _ (ok : Pair → Bool) where
+  among : (q : Pair) (ps : List Pair) → List·Memᴰ q (those ok ps) → List·Memᴰ q ps × (ok q ≡ true)
+  among q [] m = elim m [ ]
+  among q (p ∷ ps) m = on (ok p)
+      (λ e. let m′ : List·Memᴰ q (p ∷ those ok ps) = rw e at m in
+      ⊎-elim (λ d. (List·Memᴰ·head d, ap ok d ∙ e)) (λ k. let r = among q ps k in (List·Memᴰ·tail (r .0), r .1)) (List·Memᴰ·cases-cons m′))
+      (λ e. let m′ : List·Memᴰ q (those ok ps) = rw e at m in let r = among q ps m′ in (List·Memᴰ·tail (r .0), r .1))
+
+  kept : (q : Pair) (ps : List Pair) → List·Memᴰ q ps → ok q ≡ true → List·Memᴰ q (those ok ps)
+  kept q [] m t = elim m [ ]
+  kept q (p ∷ ps) (List·Memᴰ·head d) t = rw (ap ok (sym d) ∙ t) (List·Memᴰ·head d)
+  kept q (p ∷ ps) (List·Memᴰ·tail m) t = let r = kept q ps m t in on (ok p) (λ e. rw e (List·Memᴰ·tail r)) (λ e. rw e r)
+
+  -- law: those of the list that pass the test, and no others
+  pub those-mem : (q : Pair) (ps : List Pair) → List·Memᴰ q (those ok ps) ↔ (List·Memᴰ q ps × (ok q ≡ true))
+  those-mem q ps = (among q ps, λ h. kept q ps (h .0) (h .1))
+
+  those-differs : (z : ℕ) (ps : List Pair) → Differs z (map (λ p. p .x) ps) → Differs z (map (λ p. p .x) (those ok ps))
+  those-differs z [] d = tt
+  those-differs z (p ∷ ps) d = let r = those-differs z ps (d .1) in on (ok p) (λ e. rw e (d .0, r)) (λ e. rw e r)
+
+  -- law: each once
+  pub those-apart : (ps : List Pair) → Apart (map (λ p. p .x) ps) → Apart (map (λ p. p .x) (those ok ps))
+  those-apart [] a = tt
+  those-apart (p ∷ ps) a =
+      let r = those-apart ps (a .1) in
+      let d = those-differs (p .x) ps (a .0) in
+      on (ok p) (λ e. rw e (d, r)) (λ e. rw e r)

@@ -1,0 +1,2 @@
+-- What the strip calls mean.
+pub mod Limits

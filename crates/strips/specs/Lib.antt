@@ -1,0 +1,3 @@
+-- Strips as pairs, the promises of the strip calls, and what a rider may read in them.
+pub mod Strips
+pub mod Promises

@@ -1,0 +1,1 @@
+// The strip calls, each a thin call of the pool's.
