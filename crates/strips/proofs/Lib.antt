@@ -1,2 +1,3 @@
 -- What the strip calls mean.
 pub mod Limits
+pub mod Rider
