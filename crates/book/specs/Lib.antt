@@ -1,0 +1,3 @@
+-- The stored book, and the promise of writing it.
+pub mod Book
+pub mod Promises
