@@ -33,8 +33,8 @@ place-mem p q (r ∷ ps) =
     on (ltb (p .x) (r .x))
     (λ t. rw t (λ m. ⊎-elim (λ e. inl e) (λ k. inr k) (List·Memᴰ·cases-cons m), λ h. ⊎-elim (λ e. List·Memᴰ·head e) (λ k. List·Memᴰ·tail k) h))
     (λ f. rw f (
-    λ m. ⊎-elim (λ e. inr (List·Memᴰ·head e)) (λ k. ⊎-elim (λ e. inl e) (λ j. inr (List·Memᴰ·tail j)) (ih .0 k)) (List·Memᴰ·cases-cons m),
-    λ h. ⊎-elim (λ e. List·Memᴰ·tail (ih .1 (inl e))) (λ k. ⊎-elim (λ e. List·Memᴰ·head e) (λ j. List·Memᴰ·tail (ih .1 (inr j))) (List·Memᴰ·cases-cons k)) h,
+      λ m. ⊎-elim (λ e. inr (List·Memᴰ·head e)) (λ k. ⊎-elim (λ e. inl e) (λ j. inr (List·Memᴰ·tail j)) (ih .0 k)) (List·Memᴰ·cases-cons m),
+      λ h. ⊎-elim (λ e. List·Memᴰ·tail (ih .1 (inl e))) (λ k. ⊎-elim (λ e. List·Memᴰ·head e) (λ j. List·Memᴰ·tail (ih .1 (inr j))) (List·Memᴰ·cases-cons k)) h,
     ))
 
 pub byX-mem : (q : Pair) (ps : List Pair) → List·Memᴰ q (byX ps) ↔ List·Memᴰ q ps
@@ -98,21 +98,22 @@ byX-first ps a x0 p m h n =
     let T = those-mem (λ q. leb x0 (q .x)) in
     let U = those-mem (λ q. leb (p .x + 1) (q .x)) in
     rises-one (byX (atLeast x0 ps)) (p ∷ byX (atLeast (p .x + 1) ps))
-    (byX-rises (atLeast x0 ps) (those-apart _ ps a))
-    ((λ q k. let u = U q ps .0 (byX-mem q (atLeast (p .x + 1) ps) .0 k) in let g = leb-true (p .x + 1) (q .x) (u .1) in omega arith),
-    byX-rises (atLeast (p .x + 1) ps) (those-apart _ ps a))
+    (byX-rises (atLeast x0 ps) (those-apart _ ps a)) (
+      (λ q k. let u = U q ps .0 (byX-mem q (atLeast (p .x + 1) ps) .0 k) in let g = leb-true (p .x + 1) (q .x) (u .1) in omega arith),
+      byX-rises (atLeast (p .x + 1) ps) (those-apart _ ps a),
+    )
     (λ q. (
-    λ k. let t = T q ps .0 (byX-mem q (atLeast x0 ps) .0 k) in
-        let g = n q (t .0) (leb-true x0 (q .x) (t .1)) in
-        on (leb (p .x + 1) (q .x))
-        (λ e. List·Memᴰ·tail (byX-mem q (atLeast (p .x + 1) ps) .1 (U q ps .1 (t .0, e))))
-        (λ e. let l = leb-false (p .x + 1) (q .x) e in List·Memᴰ·head (apart-same (λ p. p .x) ps a q p (t .0) m (omega arith))),
-    λ k. byX-mem q (atLeast x0 ps) .1 (⊎-elim
-        (λ e. let d = ap (λ q. q .x) e in T q ps .1 (rw e m, le-leb x0 (q .x) (omega arith)))
-        (λ j. let u = U q ps .0 (byX-mem q (atLeast (p .x + 1) ps) .0 j) in
-        let g = leb-true (p .x + 1) (q .x) (u .1) in
-        T q ps .1 (u .0, le-leb x0 (q .x) (omega arith)))
-        (List·Memᴰ·cases-cons k)),
+      λ k. let t = T q ps .0 (byX-mem q (atLeast x0 ps) .0 k) in
+          let g = n q (t .0) (leb-true x0 (q .x) (t .1)) in
+          on (leb (p .x + 1) (q .x))
+          (λ e. List·Memᴰ·tail (byX-mem q (atLeast (p .x + 1) ps) .1 (U q ps .1 (t .0, e))))
+          (λ e. let l = leb-false (p .x + 1) (q .x) e in List·Memᴰ·head (apart-same (λ p. p .x) ps a q p (t .0) m (omega arith))),
+      λ k. byX-mem q (atLeast x0 ps) .1 (⊎-elim
+          (λ e. let d = ap (λ q. q .x) e in T q ps .1 (rw e m, le-leb x0 (q .x) (omega arith)))
+          (λ j. let u = U q ps .0 (byX-mem q (atLeast (p .x + 1) ps) .0 j) in
+          let g = leb-true (p .x + 1) (q .x) (u .1) in
+          T q ps .1 (u .0, le-leb x0 (q .x) (omega arith)))
+          (List·Memᴰ·cases-cons k)),
     ))
 
 all-at-least : (ps : List Pair) → atLeast 0 ps ≡ ps

@@ -1,14 +1,16 @@
 -- A pair that goes down from a place.
-use Prim.Native.Nat.{ℕ, suc, _<_, _/_}
+use Prim.Native.Nat.{ℕ, _<_, _/_}
 use mathlib.Core.Path.{_≡_}
 use mathlib.Core.Logic.{_≢_}
+use mathlib.Core.Bool.{cond}
 use mathlib.Core.List.{List}
-use lib.ListN.{length, getD}
+use lib.ListN.{length, getD, set}
 use Rattle.rule.specs.declared.Pair.{Pair}
+use Rattle.rule.specs.Pairs.{beats}
 use Rattle.rule.specs.Stripe.{Stripe, Low}
 use Rattle.rule.specs.Tree.{Tree, Within}
 use Rattle.rule.specs.Changes.{goDown}
-use Rattle.rule.specs.Cells.{perSlot, freeOf, rightAt, treeAt}
+use Rattle.rule.specs.Cells.{perSlot, freeOf, pairAt, rightAt, putPair, putLinks, treeAt}
 use Rattle.rule.specs.Sound.{Sound, Slot, Leads, itself}
 use Rattle.rule.proofs.GoDown.{Down}
 use Rattle.rule.proofs.Standing.{Stands, Distinct}
@@ -43,3 +45,24 @@ pub record Carried (c : List ℕ) (k cell : ℕ) (at : Stripe) (p : Pair) (d : L
       let t : Tree Pair = goDown itself (freeOf c) p at (treeAt c k (getD c cell 0)) in
       Replaced c cell t t d
   pub first : freeOf d ≡ rightAt c (freeOf c)
+
+-- of two pairs, the one that stays where they meet, and the one that goes on
+unfoldable pub stays : Pair → Pair → Pair
+stays p q = cond (beats p q) p q
+
+unfoldable pub goesOn : Pair → Pair → Pair
+goesOn p q = cond (beats p q) q p
+
+-- p met the pair of slot s: the better one stands there now, and r goes on
+pub record Settled (c : List ℕ) (s : ℕ) (p : Pair) (d : List ℕ) (r : Pair) : Type 0 where
+  pub cells : d ≡ putPair c s (stays p (pairAt c s))
+  pub goes : r ≡ goesOn p (pairAt c s)
+
+-- there is a free slot, and a cell for the link to it
+pub record Room (c : List ℕ) (cell : ℕ) : Type 0 where
+  pub inside : cell < length c
+  pub slot : Slot c (freeOf c)
+
+-- the first free slot holds p, with links 0, and is linked from the cell; the next free slot is the first
+unfoldable pub taken : List ℕ → ℕ → Pair → List ℕ
+taken c cell p = let s = freeOf c in set (set (putLinks (putPair c s p) s 0 0) 2 (rightAt c s)) cell s

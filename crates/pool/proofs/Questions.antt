@@ -24,7 +24,8 @@ use Rattle.rule.proofs.Decided.{true-pool, sound-test, sound-well, sound-tree}
 use Rattle.rule.proofs.Members.{members-mem, well-apart}
 use Rattle.rule.proofs.Scan.{Alike, smallestXOf-alike, largestXOf-alike, smallestYOf-alike}
 use Rattle.rule.proofs.Stored.{stored-mem, stored-apart}
-use Rattle.pool.specs.Asking.{treeOf, outcomeOf, smallestXAnswer, largestXAnswer, smallestYAnswer, roomOf, matchesOf, listingLeft}
+use Rattle.pool.specs.Asking.{treeOf, outcomeOf, smallestXAnswer, largestXAnswer, smallestYAnswer, matchesOf, listingLeft}
+use Rattle.rule.specs.Walks.{roomOf}
 
 -- a question's outcome, unless its limits are backwards
 abbrev pub asks : ℕ → ℕ → Outcome → Outcome

@@ -1,8 +1,8 @@
 -- What the four questions answer, for every pool and all numbers: the finding is that of a plain scan of the stored list, the visits are the walk's.
-use Prim.Native.Nat.{ℕ, _*_, _/_}
-use mathlib.Core.List.{List, [], _∷_, _++_}
+use Prim.Native.Nat.{ℕ}
+use mathlib.Core.List.{List, [], _∷_}
 use lib.Dec.{ltb}
-use lib.ListN.{length, take, drop}
+use lib.ListN.{length, take}
 use Rattle.rule.specs.declared.Answer.{Answer}
 use Rattle.rule.specs.declared.Finding.{Finding}
 use Rattle.rule.specs.declared.Finding.the-variants.{Found as found-pair, Nothing as no-pair}
@@ -17,7 +17,7 @@ use Rattle.rule.specs.Refusals.{Line, answerBy, Left, leftBy}
 use Rattle.rule.specs.Sound.{allLevels}
 use Rattle.rule.specs.Stripe.{rootStripe}
 use Rattle.rule.specs.Tree.{Tree, members}
-use Rattle.rule.specs.Walks.{smallestX, largestX, smallestY, listing}
+use Rattle.rule.specs.Walks.{smallestX, largestX, smallestY, listing, roomOf, written}
 use Rattle.sound.specs.Promises.{lengthLine, soundLine}
 
 -- the tree that a pool holds
@@ -51,22 +51,9 @@ smallestYAnswer c x0 x1 =
     answerBy (lengthLine c ∷ soundLine c ∷ backwardsLine x0 x1 ∷ [])
     (answered (smallestYOf x0 x1 (stored c)) (smallestY x0 x1 rootStripe (treeOf c) .visits))
 
--- how many pairs a lent slice has room for
-abbrev pub roomOf : List ℕ → ℕ
-roomOf out = length out / 2
-
 -- the matches in walk order: father, left, right
 abbrev pub matchesOf : List ℕ → Limits → List Pair
 matchesOf c q = those (matches q) (members (treeOf c))
-
--- two cells each, x and y
-abbrev pub flat : List Pair → List ℕ
-flat [] = []
-flat (p ∷ ps) = p .x ∷ p .y ∷ flat ps
-
--- the pairs written from the slice's start; every other cell stands as it was
-abbrev pub written : List Pair → List ℕ → List ℕ
-written ps out = flat ps ++ drop (length (flat ps)) out
 
 -- the first matches in walk order, as many as there is room for, and whether there are more
 unfoldable pub listingLeft : List ℕ → Limits → List ℕ → Left

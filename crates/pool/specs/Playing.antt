@@ -14,7 +14,8 @@ use Rattle.rule.specs.Plain.{matches, those, smallestXOf, largestXOf, smallestY
 use Rattle.rule.specs.Refusals.{Left}
 use Rattle.sound.specs.Promises.{setUp}
 use Rattle.pool.specs.Changing.{insertion, deletion}
-use Rattle.pool.specs.Asking.{outcomeOf, smallestXAnswer, largestXAnswer, smallestYAnswer, roomOf, listingLeft}
+use Rattle.pool.specs.Asking.{outcomeOf, smallestXAnswer, largestXAnswer, smallestYAnswer, listingLeft}
+use Rattle.rule.specs.Walks.{roomOf}
 
 -- the calls; a listing lends a slice
 pub data Call : Type 0 where

@@ -1,9 +1,9 @@
 -- The four walks over a tree, with the slots that each visits.
-use Prim.Native.Nat.{ℕ, zero, suc, _+_, _-_}
+use Prim.Native.Nat.{ℕ, zero, suc, _+_, _-_, _/_}
 use mathlib.Core.Bool.{Bool, true, false, cond}
 use mathlib.Core.List.{List, [], _∷_, _++_}
 use lib.Dec.{ltb, leb}
-use lib.ListN.{length}
+use lib.ListN.{length, drop}
 use Rattle.rule.specs.declared.Pair.{Pair}
 use Rattle.rule.specs.declared.Limits.{Limits}
 use Rattle.rule.specs.declared.Finding.{Finding}
@@ -83,3 +83,16 @@ listing q s (fork i p l r) room =
     let a = cond (ltb (q .x0) (middle s)) (listing q (leftPart s) l k) (listed [] false 0) in
     let b = cond (leb (middle s) (q .x1)) (listing q (rightPart s) r (k - length (a .pairs))) (listed [] false 0) in
     cond (ltb (q .y1) (p .y)) (listed [] false 1) (andThen me (andThen a b))
+
+-- how many pairs a lent slice has room for
+abbrev pub roomOf : List ℕ → ℕ
+roomOf out = length out / 2
+
+-- two cells each, x and y
+abbrev pub flat : List Pair → List ℕ
+flat [] = []
+flat (p ∷ ps) = p .x ∷ p .y ∷ flat ps
+
+-- the pairs written from the slice's start; every other cell stands as it was
+abbrev pub written : List Pair → List ℕ → List ℕ
+written ps out = flat ps ++ drop (length (flat ps)) out

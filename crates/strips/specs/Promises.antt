@@ -15,10 +15,10 @@ use Rattle.rule.specs.Laid.{inserted, deleted}
 use Rattle.rule.specs.Plain.{smallestXOf, largestXOf, smallestYOf}
 use Rattle.rule.specs.Refusals.{Line, answerBy, Left, leftBy}
 use Rattle.rule.specs.Stripe.{rootStripe}
-use Rattle.rule.specs.Walks.{smallestX, largestX, smallestY, listing}
+use Rattle.rule.specs.Walks.{smallestX, largestX, smallestY, listing, roomOf, written}
 use Rattle.sound.specs.Promises.{lengthLine, soundLine}
 use Rattle.pool.specs.Changing.{takenLine, fullLine, missingLine, otherLine}
-use Rattle.pool.specs.Asking.{treeOf, answered, roomOf, matchesOf, written}
+use Rattle.pool.specs.Asking.{treeOf, answered, matchesOf}
 use Rattle.strips.specs.Strips.{stripPair, over, noStrip, coversLimits, lastLimits, meetsLimits, containsLimits}
 
 -- a start, end, number or asked slot over 65,535, or start > end

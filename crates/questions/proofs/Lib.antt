@@ -1,0 +1,4 @@
+-- The laws that the proofs of the walks cite.
+pub mod Finding
+pub mod Places
+pub mod XWalks

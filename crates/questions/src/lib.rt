@@ -1,0 +1,2 @@
+// The four walks over a sound pool.
+mod x_walks;

@@ -1,0 +1,104 @@
+// Smallest and largest x, each the other's mirror.
+use rule::Stripe;
+ghost use mathlib.Core.Path.{_≡_};
+ghost use Prim.Native.Nat.{suc, _+_, _≤_};
+ghost use Rattle.rule.specs.Cells.{Fits, pairAt, treeAt};
+ghost use Rattle.rule.specs.Plain.{inRange, own, closest, smaller, larger};
+ghost use Rattle.rule.specs.Shape.{stripeOf};
+ghost use Rattle.rule.specs.Walks.{smallestX, largestX, ask};
+ghost use Rattle.questions.specs.Walking.{foundAt, limits, Some, Asked, Made, Nearer};
+
+// The slot's own pair, if it is in range and smaller than what was found below it.
+fn smaller_of(pool: &[u32], slot: u32, x0: u32, x1: u32, below: u32) -> u32
+    requires { ⌜ (1 ≤ slot) × Fits (now pool) slot × Some (now pool) below ⌝ }
+    ensures { λ r. ⌜ Nearer (now (pool .entry)) smaller slot x0 x1 below r ⌝ }
+{
+    let p = cells::pair(pool, slot);
+    if p.x < x0 {
+        return below;
+    }
+    if x1 < p.x {
+        return below;
+    }
+    if below == 0 {
+        return slot;
+    }
+    let b = cells::pair(pool, below);
+    if p.x < b.x {
+        return slot;
+    }
+    below
+}
+
+// Smallest x at a slot, with so many levels below it.
+fn smallest_at(
+    pool: &[u32],
+    levels: u32,
+    slot: u32,
+    at: Stripe,
+    x0: u32,
+    x1: u32,
+    y1: u32,
+    visits: &mut u32,
+) -> u32
+    requires { ⌜ (1 ≤ slot) × Asked (now pool) (suc levels) slot (stripeOf at) (now visits) ⌝ }
+    ensures { λ r. ⌜ Made (now (pool .entry)) (now (visits .entry)) (smallestX (limits x0 x1 y1) (stripeOf at) (treeAt (now (pool .entry)) (suc levels) slot)) r (now (visits .exit)) ⌝ }
+{
+    *visits += 1;
+    let p = cells::pair(pool, slot);
+    if y1 < p.y {
+        return 0;
+    }
+    let left = cells::left(pool, slot);
+    let l = smallest_son(
+        pool,
+        levels,
+        left,
+        at.goes_left(x0),
+        at.left(),
+        x0,
+        x1,
+        y1,
+        visits,
+    );
+    if l != 0 {
+        return smaller_of(pool, slot, x0, x1, l);
+    }
+    let right = cells::right(pool, slot);
+    let r = smallest_son(
+        pool,
+        levels,
+        right,
+        !at.goes_left(x1),
+        at.right(),
+        x0,
+        x1,
+        y1,
+        visits,
+    );
+    smaller_of(pool, slot, x0, x1, r)
+}
+
+// Smallest x at a son's place, if the son is there and asked.
+fn smallest_son(
+    pool: &[u32],
+    levels: u32,
+    slot: u32,
+    go: bool,
+    at: Stripe,
+    x0: u32,
+    x1: u32,
+    y1: u32,
+    visits: &mut u32,
+) -> u32
+    requires { ⌜ Asked (now pool) levels slot (stripeOf at) (now visits) ⌝ }
+    ensures { λ r. ⌜ Made (now (pool .entry)) (now (visits .entry)) (ask go (smallestX (limits x0 x1 y1) (stripeOf at) (treeAt (now (pool .entry)) levels slot))) r (now (visits .exit)) ⌝ }
+{
+    if slot == 0 {
+        return 0;
+    }
+    if go {
+        return smallest_at(pool, levels - 1, slot, at, x0, x1, y1, visits);
+    }
+    0
+}
