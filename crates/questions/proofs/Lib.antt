@@ -2,3 +2,5 @@
 pub mod Finding
 pub mod Places
 pub mod XWalks
+pub mod SmallestX
+pub mod LargestX

@@ -1,8 +1,10 @@
 -- A slot asks its left son, and its right one where that gave nothing; a son that is there and asked goes on with a level less. Assumes nothing.
+use Rattle.rule.specs.Walks.{smallestX}
 use Prim.Native.Nat.{ℕ, _+_, _*_, _<_}
 use native.Mathlib.Omega.{arith}
 use Rattle.questions.proofs.Places.{there, one-more, asked-left, asked-right, deep, asked-here}
-use Rattle.questions.proofs.XWalks.{smallest-stop, smallest-left, smallest-room, smallest-right, smallest-none, smallest-unasked, smallest-asked}
+use Rattle.questions.proofs.SmallestX.{smallest-stop, smallest-left, smallest-room, smallest-right, smallest-empty}
+use Rattle.questions.proofs.XWalks.{none-there, unasked, asked}
 use borrow.Author.Needs.{needs}
 use borrow.Fn.Kinds.{In}
 use borrow.Fn.PlainCycle.{Measures, is, falls, and}
@@ -112,7 +114,7 @@ smallest-at-returns-3 t c =
 smallest-son-returns : (t : ℕ) → smallest-son-lts.Need-returns (smallest-son-calls t) (smallest-son-at t) smallest-son.Post
 smallest-son-returns t c =
     let p2 = c .before .before in
-    smallest-none _ _ _ _ _ _ (p2 .args .go) (c .if1 .taken)
+    none-there (smallestX _ _) (smallest-empty _ _) _ _ _ _ (p2 .args .go) (c .if1 .taken)
 
 smallest-son-sub-smallest-at : (t : ℕ) → smallest-son-lts.Need-sub-smallest-at (smallest-son-calls t) (smallest-son-at t) smallest-son.Post
 smallest-son-sub-smallest-at t c = let d = deep _ _ _ _ _ (c .before .before .before .pre .1) (c .before .if1 .left) in omega arith
@@ -125,10 +127,10 @@ smallest-son-smallest-at-requires t c κs =
 smallest-son-returns-2 : (t : ℕ) → smallest-son-lts.Need-returns-2 (smallest-son-calls t) (smallest-son-at t) smallest-son.Post
 smallest-son-returns-2 t c =
     let p2 = c .before .before in let p3 = p2 .before in let p5 = p3 .before .before in
-    smallest-asked _ _ _ _ _ _ _ _ _ (p2 .if2 .taken) (deep _ _ _ _ _ (p5 .pre .1) (p3 .if1 .left)) (c .smallest-at .ensures)
+    asked (smallestX _ _) (smallest-empty _ _) _ _ _ _ _ _ _ (p2 .if2 .taken) (deep _ _ _ _ _ (p5 .pre .1) (p3 .if1 .left)) (c .smallest-at .ensures)
 
 smallest-son-returns-3 : (t : ℕ) → smallest-son-lts.Need-returns-3 (smallest-son-calls t) (smallest-son-at t) smallest-son.Post
-smallest-son-returns-3 t c = smallest-unasked _ _ _ _ _ _ _ (c .if2 .left)
+smallest-son-returns-3 t c = unasked (smallestX _ _) (smallest-empty _ _) _ _ _ _ _ (c .if2 .left)
 
 pub +smallest-at+smallest-son-spec : {M : Type 1} → statement M
 +smallest-at+smallest-son-spec = close μ-smallest-at μ-smallest-son (λ t. smallest-at-lts.spec (smallest-at-calls t) (smallest-at-at t) smallest-at.Post
