@@ -4,3 +4,5 @@ mod hole;
 
 pub use down::insert;
 pub use down::is_stored;
+pub use hole::Removal;
+pub use hole::delete;

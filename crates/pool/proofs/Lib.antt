@@ -4,3 +4,4 @@ pub mod Changes
 pub mod TakenBack
 pub mod Questions
 pub mod Played
+pub mod Entries

@@ -33,7 +33,7 @@ pub agree-header : {c d : List ℕ} → markOf d ≡ markOf c → rootOf d ≡ r
 agree-header m r f n = record { pair = pair-ext m r; left = f; right = n }
 
 -- agreement on a slot is agreement on its four cells
-agree-cell : {c d : List ℕ} {s : ℕ} → Agree c d s → (i j : ℕ) → j < perSlot → i ≡ s * perSlot + j → getD d i 0 ≡ getD c i 0
+pub agree-cell : {c d : List ℕ} {s : ℕ} → Agree c d s → (i j : ℕ) → j < perSlot → i ≡ s * perSlot + j → getD d i 0 ≡ getD c i 0
 agree-cell {s = s} h i zero b e = let z : i ≡ s * perSlot = omega arith in rw z (ap (λ q. q .x) (h .pair))
 agree-cell h i (suc zero) b e = rw e (ap (λ q. q .y) (h .pair))
 agree-cell h i (suc (suc zero)) b e = rw e (h .left)

@@ -27,6 +27,7 @@ pub mod Inserted
 pub mod Deleted
 pub mod TakenBack
 pub mod Promised
+pub mod Tables
 pub mod Best
 pub mod Scan
 pub mod Outside

@@ -8,3 +8,4 @@ pub mod FreeChain
 pub mod Whole
 pub mod Judged
 pub mod Meaning
+pub mod Lines
