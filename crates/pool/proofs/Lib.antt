@@ -5,3 +5,4 @@ pub mod TakenBack
 pub mod Questions
 pub mod Played
 pub mod Entries
+pub mod Bounds
