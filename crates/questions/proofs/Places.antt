@@ -19,7 +19,7 @@ module _ (c : List ℕ) (k s : ℕ) (at : Stripe) (v : ℕ) (one : 1 ≤ s) (o :
   pub there : Fits c s
   there = leads-fits c (o .leads) some
 
-  size-here : size (treeAt c (suc k) s) ≡ size (treeAt c k (leftAt c s)) + size (treeAt c k (rightAt c s)) + 1
+  pub size-here : size (treeAt c (suc k) s) ≡ size (treeAt c k (leftAt c s)) + size (treeAt c k (rightAt c s)) + 1
   size-here = rw (tree-fork c k s some)
 
   -- one more visit fits

@@ -1,12 +1,17 @@
 // Smallest and largest x, each the other's mirror.
+use rule::Finding;
 use rule::Stripe;
+use rule::Walked;
+use super::found_at;
 ghost use mathlib.Core.Path.{_≡_};
 ghost use Prim.Native.Nat.{suc, _+_, _≤_};
-ghost use Rattle.rule.specs.Cells.{Fits, pairAt, treeAt};
-ghost use Rattle.rule.specs.Plain.{inRange, own, closest, smaller, larger};
+ghost use Rattle.rule.specs.Cells.{Fits, rootOf, treeAt};
+ghost use Rattle.rule.specs.Plain.{smaller, larger};
 ghost use Rattle.rule.specs.Shape.{stripeOf};
+ghost use Rattle.rule.specs.Sound.{Sound, allLevels};
+ghost use Rattle.rule.specs.Stripe.{rootStripe};
 ghost use Rattle.rule.specs.Walks.{smallestX, largestX, ask};
-ghost use Rattle.questions.specs.Walking.{foundAt, limits, Some, Asked, Made, Nearer};
+ghost use Rattle.questions.specs.Walking.{limits, Some, Asked, Made, Nearer};
 
 // The slot's own pair, if it is in range and smaller than what was found below it.
 fn smaller_of(pool: &[u32], slot: u32, x0: u32, x1: u32, below: u32) -> u32
@@ -196,4 +201,44 @@ fn largest_son(
         return largest_at(pool, levels - 1, slot, at, x0, x1, y1, visits);
     }
     0
+}
+
+// The pair with the smallest x in the limits.
+pub fn smallest_x(pool: &[u32], x0: u32, x1: u32, y1: u32) -> Walked
+    requires { ⌜ Sound (now pool) ⌝ }
+    ensures { λ r. ⌜ r ≡ smallestX (limits x0 x1 y1) rootStripe (treeAt (now (pool .entry)) allLevels (rootOf (now (pool .entry)))) ⌝ }
+{
+    let root = cells::root(pool);
+    if root == 0 {
+        return Walked {
+            finding: Finding::Nothing,
+            visits: 0,
+        };
+    }
+    let mut visits: u32 = 0;
+    let slot = smallest_at(pool, Stripe::LEVELS, root, Stripe::root(), x0, x1, y1, &mut visits);
+    Walked {
+        finding: found_at(pool, slot),
+        visits,
+    }
+}
+
+// The pair with the largest x in the limits.
+pub fn largest_x(pool: &[u32], x0: u32, x1: u32, y1: u32) -> Walked
+    requires { ⌜ Sound (now pool) ⌝ }
+    ensures { λ r. ⌜ r ≡ largestX (limits x0 x1 y1) rootStripe (treeAt (now (pool .entry)) allLevels (rootOf (now (pool .entry)))) ⌝ }
+{
+    let root = cells::root(pool);
+    if root == 0 {
+        return Walked {
+            finding: Finding::Nothing,
+            visits: 0,
+        };
+    }
+    let mut visits: u32 = 0;
+    let slot = largest_at(pool, Stripe::LEVELS, root, Stripe::root(), x0, x1, y1, &mut visits);
+    Walked {
+        finding: found_at(pool, slot),
+        visits,
+    }
 }

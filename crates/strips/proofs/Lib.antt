@@ -1,3 +1,4 @@
 -- What the strip calls mean.
 pub mod Limits
 pub mod Rider
+pub mod Tabled

@@ -1,0 +1,22 @@
+-- Each way out is one law. Assumes nothing.
+use mathlib.Core.Path.{sym, ap, _∙_}
+use Rattle.rule.specs.declared.Finding.the-variants.{Found}
+use Rattle.questions.proofs.Finding.{found-none, found-some}
+use Rattle.questions.proofs.found_at.Statement.{statement}
+use Rattle.questions.proofs.found_at.Tie as tie
+
+returns : tie.Need-returns
+returns c = sym (found-none _ _ (c .if1 .taken))
+
+pair-requires : tie.Need-pair-requires
+pair-requires c κs =
+    let p2 = c .before .before in
+    p2 .pre (c .if1 .left)
+
+returns-2 : tie.Need-returns-2
+returns-2 c =
+    let p1 = c .before in
+    ap Found (c .pair .ensures) ∙ sym (found-some _ _ (p1 .if1 .left))
+
+pub found-at-spec : {M : Type 1} → statement M
+found-at-spec = tie.close (tie.spec returns pair-requires returns-2)

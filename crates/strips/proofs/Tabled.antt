@@ -1,0 +1,70 @@
+-- The strip calls' tables: a line of their own that does not hold leaves the pool call's table. Assumes nothing.
+use Prim.Native.Nat.{ℕ, _+_, _*_, _≤_}
+use mathlib.Core.Path.{_≡_, refl, sym, ap, _∙_}
+use mathlib.Core.Bool.{Bool, true, false, _||_}
+use mathlib.Core.List.{List, [], _∷_}
+use native.Mathlib.Omega.{arith}
+use lib.Dec.{ltb}
+use borrow.Author.Tests.{ltb-false, ltb-true, le-ltb, lt-ltb}
+use Rattle.rule.specs.declared.Answer.{Answer}
+use Rattle.rule.specs.Answer.{refused}
+use Rattle.rule.specs.Refusals.{Line, answerBy, Left, leftBy, Leaves}
+use Rattle.rule.specs.Test.{isPool, isSound}
+use Rattle.rule.proofs.Tests.{on, neither}
+use Rattle.sound.specs.Promises.{lengthLine, soundLine}
+use Rattle.pool.specs.Changing.{insertion, deletion}
+use Rattle.strips.specs.Strips.{stripPair, over, noStrip}
+use Rattle.strips.specs.Promises.{stripLine, opening, closing}
+
+-- a call that is refused by the third line of its table
+pub third-left : (c : List ℕ) (l : Line) (ls : List Line) (d : List ℕ) (w : Left) (r : Answer) → l .when ≡ true
+    → r ≡ answerBy (lengthLine c ∷ soundLine c ∷ []) (refused (l .code)) → Leaves (leftBy (lengthLine c ∷ soundLine c ∷ l ∷ ls) d w) d r
+unfolding leftBy answerBy
+third-left c l ls d w r t e = on (isPool c)
+    (λ p. on (isSound c)
+    (λ s. let e′ : r ≡ refused (l .code) = rw (p, s) at e in rw (p, s, t) (record { cells = refl; answer = e′ }))
+    (λ s. let e′ : r ≡ refused 2 = rw (p, s) at e in rw (p, s) (record { cells = refl; answer = e′ })))
+    (λ p. let e′ : r ≡ refused 1 = rw p at e in rw p (record { cells = refl; answer = e′ }))
+
+pub third-answer : (c : List ℕ) (l : Line) (ls : List Line) (a : Answer) (r : Answer) → l .when ≡ true
+    → r ≡ answerBy (lengthLine c ∷ soundLine c ∷ []) (refused (l .code)) → r ≡ answerBy (lengthLine c ∷ soundLine c ∷ l ∷ ls) a
+unfolding answerBy
+third-answer c l ls a r t e = on (isPool c)
+    (λ p. on (isSound c)
+    (λ s. let e′ : r ≡ refused (l .code) = rw (p, s) at e in rw (p, s, t) e′)
+    (λ s. let e′ : r ≡ refused 2 = rw (p, s) at e in rw (p, s) e′))
+    (λ p. let e′ : r ≡ refused 1 = rw p at e in rw p e′)
+
+-- opening and closing
+module _ (c : List ℕ) (start end number : ℕ) where
+  pub opening-passed : noStrip start end number ≡ false → opening c start end number ≡ insertion c (stripPair start end number)
+  unfolding opening insertion leftBy
+  opening-passed f = rw f
+
+  pub closing-passed : noStrip start end number ≡ false → closing c start end number ≡ deletion c (stripPair start end number)
+  unfolding closing deletion leftBy
+  closing-passed f = rw f
+
+  module _ (b : Bool) (eb : b ≡ noStrip start end number) where
+    pub open-refused : {r : Answer} → b ≡ true → r ≡ answerBy (lengthLine c ∷ soundLine c ∷ []) (refused 9) → Leaves (opening c start end number) c r
+    unfolding opening
+    open-refused t e = third-left c (stripLine (noStrip start end number)) _ c _ _ (sym eb ∙ t) e
+
+    pub open-made : {d : List ℕ} {r : Answer} → b ≡ false → Leaves (insertion c (stripPair start end number)) d r → Leaves (opening c start end number) d r
+    open-made f h = rw (opening-passed (sym eb ∙ f)) h
+
+    pub close-refused : {r : Answer} → b ≡ true → r ≡ answerBy (lengthLine c ∷ soundLine c ∷ []) (refused 9) → Leaves (closing c start end number) c r
+    unfolding closing
+    close-refused t e = third-left c (stripLine (noStrip start end number)) _ c _ _ (sym eb ∙ t) e
+
+    pub close-made : {d : List ℕ} {r : Answer} → b ≡ false → Leaves (deletion c (stripPair start end number)) d r → Leaves (closing c start end number) d r
+    close-made f h = rw (closing-passed (sym eb ∙ f)) h
+
+    -- a strip's numbers fit, so its x does
+    pub strip-fits : b ≡ false → (end ≤ 65535) × (number ≤ 65535)
+    strip-fits f =
+        let h : (over start || over end || over number || ltb end start) ≡ false = sym eb ∙ f in
+        let a = neither (over start || over end || over number) (ltb end start) h in
+        let d = neither (over start || over end) (over number) (a .0) in
+        let g = neither (over start) (over end) (d .0) in
+        (ltb-false 65535 end (g .1), ltb-false 65535 number (d .1))
