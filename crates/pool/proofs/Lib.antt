@@ -6,3 +6,4 @@ pub mod Questions
 pub mod Played
 pub mod Entries
 pub mod Bounds
+pub mod Asked

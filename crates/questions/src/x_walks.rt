@@ -1,8 +1,8 @@
 // Smallest and largest x, each the other's mirror.
+use super::found_at;
 use rule::Finding;
 use rule::Stripe;
 use rule::Walked;
-use super::found_at;
 ghost use mathlib.Core.Path.{_≡_};
 ghost use Prim.Native.Nat.{suc, _+_, _≤_};
 ghost use Rattle.rule.specs.Cells.{Fits, rootOf, treeAt};
@@ -216,7 +216,16 @@ pub fn smallest_x(pool: &[u32], x0: u32, x1: u32, y1: u32) -> Walked
         };
     }
     let mut visits: u32 = 0;
-    let slot = smallest_at(pool, Stripe::LEVELS, root, Stripe::root(), x0, x1, y1, &mut visits);
+    let slot = smallest_at(
+        pool,
+        Stripe::LEVELS,
+        root,
+        Stripe::root(),
+        x0,
+        x1,
+        y1,
+        &mut visits,
+    );
     Walked {
         finding: found_at(pool, slot),
         visits,
@@ -236,7 +245,16 @@ pub fn largest_x(pool: &[u32], x0: u32, x1: u32, y1: u32) -> Walked
         };
     }
     let mut visits: u32 = 0;
-    let slot = largest_at(pool, Stripe::LEVELS, root, Stripe::root(), x0, x1, y1, &mut visits);
+    let slot = largest_at(
+        pool,
+        Stripe::LEVELS,
+        root,
+        Stripe::root(),
+        x0,
+        x1,
+        y1,
+        &mut visits,
+    );
     Walked {
         finding: found_at(pool, slot),
         visits,

@@ -1,7 +1,7 @@
 // Opening and closing a strip.
+use super::shape;
 use rule::Answer;
 use rule::codes;
-use super::shape;
 ghost use mathlib.Core.Path.{_≡_};
 ghost use Rattle.rule.specs.Refusals.{Leaves};
 ghost use Rattle.strips.specs.Promises.{opening, closing};

@@ -10,7 +10,7 @@ root-requires : tie.Need-root-requires
 root-requires c κs = header _ (c .before .pre)
 
 returns : tie.Need-returns
-returns c = 
+returns c =
     let p1 = c .before in
     top-none (smallestY _ _) _ _ (p1 .root .ensures) (smallestY-empty _ _) (c .if1 .taken)
 
@@ -23,7 +23,7 @@ found-at-requires : tie.Need-found-at-requires
 found-at-requires c κs = c .smallest-y-at .ensures .some
 
 returns-2 : tie.Need-returns-2
-returns-2 c = 
+returns-2 c =
     let p1 = c .before in let p3 = p1 .before .before in let p5 = p3 .before .before in
     top-walked (smallestY _ _) _ _ (p5 .root .ensures) _ (p3 .root2 .ensures) _ _ (p1 .smallest-y-at .ensures) _ (c .found-at .ensures)
 

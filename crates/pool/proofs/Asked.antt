@@ -1,0 +1,66 @@
+-- The questions' entries, a way out at a time: the walk's finding is the plain scan's. Assumes nothing.
+use Prim.Native.Nat.{ℕ, _≤_, _<_}
+use mathlib.Core.Path.{_≡_, refl, sym, ap, _∙_}
+use mathlib.Core.Logic.{_↔_}
+use mathlib.Core.Bool.{Bool, true, false}
+use mathlib.Core.List.{List, [], _∷_, List·Memᴰ}
+use lib.Dec.{ltb}
+use borrow.Author.Tests.{lt-ltb, le-ltb}
+use Rattle.rule.specs.declared.Answer.{Answer}
+use Rattle.rule.specs.declared.Finding.{Finding}
+use Rattle.rule.specs.declared.Limits.{Limits}
+use Rattle.rule.specs.declared.Pair.{Pair}
+use Rattle.rule.specs.declared.Walked.{Walked}
+use Rattle.rule.specs.Answer.{refused}
+use Rattle.rule.specs.Cells.{stored}
+use Rattle.rule.specs.Codes as codes
+use Rattle.rule.specs.Plain.{smallestXOf, largestXOf, smallestYOf}
+use Rattle.rule.specs.Refusals.{answerBy}
+use Rattle.rule.specs.Sound.{Sound}
+use Rattle.rule.specs.Stripe.{rootStripe}
+use Rattle.rule.specs.Tree.{Mem}
+use Rattle.rule.specs.Walks.{smallestX, largestX, smallestY}
+use Rattle.rule.proofs.AnyOrder.{smallestX-any, largestX-any, smallestY-any}
+use Rattle.rule.proofs.Decided.{sound-tree}
+use Rattle.rule.proofs.Stored.{stored-mem}
+use Rattle.rule.proofs.Tables.{answer-refused, answer-passed, answer-none}
+use Rattle.sound.specs.Promises.{lengthLine, soundLine}
+use Rattle.sound.proofs.Lines.{answer-well}
+use Rattle.pool.specs.Asking.{treeOf, backwardsLine, answered, smallestXAnswer, largestXAnswer, smallestYAnswer}
+use Rattle.pool.proofs.Bounds.{tree-well}
+
+module _ {c : List ℕ} (s : Sound c) where
+  tree-stored : (p : Pair) → Mem p (treeOf c) ↔ List·Memᴰ p (stored c)
+  tree-stored p = rw (sound-tree c s) (stored-mem s p .1, stored-mem s p .0)
+
+  -- a question's table on a sound pool
+  module _ (x0 x1 : ℕ) where
+    pub backwards : (a : Answer) {r : Answer} → x1 < x0 → r ≡ refused codes.backwards → r ≡ answerBy (lengthLine c ∷ soundLine c ∷ backwardsLine x0 x1 ∷ []) a
+    backwards a h e = rw (answer-well s (backwardsLine x0 x1 ∷ []) a) (answer-refused (backwardsLine x0 x1) [] a (lt-ltb x1 x0 h) e)
+
+    forwards : (f : Finding) (w : Walked) (r : Answer) → x0 ≤ x1 → w .finding ≡ f → r ≡ answered (w .finding) (w .visits)
+        → r ≡ answerBy (lengthLine c ∷ soundLine c ∷ backwardsLine x0 x1 ∷ []) (answered f (w .visits))
+    forwards f w r h e er =
+        rw (answer-well s (backwardsLine x0 x1 ∷ []) (answered f (w .visits)), answer-passed (backwardsLine x0 x1) [] (answered f (w .visits)) (le-ltb x1 x0 h), answer-none (answered f (w .visits)))
+        (rw e at er)
+
+  pub smallestX-asked : (q : Limits) (w : Walked) (r : Answer) → q .x0 ≤ q .x1 → w ≡ smallestX q rootStripe (treeOf c) → r ≡ answered (w .finding) (w .visits)
+      → r ≡ smallestXAnswer c q
+  unfolding smallestXAnswer
+  smallestX-asked q w r h e er =
+      let W = smallestX q rootStripe (treeOf c) in
+      forwards (q .x0) (q .x1) (smallestXOf q (stored c)) W r h (smallestX-any rootStripe (treeOf c) (tree-well c s) (stored c) tree-stored q) (rw e at er)
+
+  pub largestX-asked : (q : Limits) (w : Walked) (r : Answer) → q .x0 ≤ q .x1 → w ≡ largestX q rootStripe (treeOf c) → r ≡ answered (w .finding) (w .visits)
+      → r ≡ largestXAnswer c q
+  unfolding largestXAnswer
+  largestX-asked q w r h e er =
+      let W = largestX q rootStripe (treeOf c) in
+      forwards (q .x0) (q .x1) (largestXOf q (stored c)) W r h (largestX-any rootStripe (treeOf c) (tree-well c s) (stored c) tree-stored q) (rw e at er)
+
+  pub smallestY-asked : (x0 x1 : ℕ) (w : Walked) (r : Answer) → x0 ≤ x1 → w ≡ smallestY x0 x1 rootStripe (treeOf c) → r ≡ answered (w .finding) (w .visits)
+      → r ≡ smallestYAnswer c x0 x1
+  unfolding smallestYAnswer
+  smallestY-asked x0 x1 w r h e er =
+      let W = smallestY x0 x1 rootStripe (treeOf c) in
+      forwards x0 x1 (smallestYOf x0 x1 (stored c)) W r h (smallestY-any rootStripe (treeOf c) (tree-well c s) (stored c) tree-stored x0 x1) (rw e at er)

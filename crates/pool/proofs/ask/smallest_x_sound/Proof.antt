@@ -1,0 +1,21 @@
+-- Backwards limits are refused; else the walk answers. Assumes nothing.
+use Rattle.pool.specs.Asking.{smallestXAnswer}
+use Rattle.pool.proofs.Asked.{backwards, smallestX-asked}
+use borrow.Author.Needs.{needs}
+use Rattle.pool.proofs.ask.smallest_x_sound.Statement.{statement}
+use Rattle.pool.proofs.ask.smallest_x_sound.Tie as tie
+
+returns : tie.Need-returns
+unfolding smallestXAnswer
+returns c =
+    let p1 = c .before in let p3 = p1 .before .before in
+    backwards (p3 .pre) _ _ _ (p1 .if1 .taken) (c .refused .ensures)
+
+returns-2 : tie.Need-returns-2
+returns-2 c =
+    let p1 = c .before in let p2 = p1 .before in let p4 = p2 .before .before in
+    smallestX-asked (p4 .pre) _ _ _ (p2 .if1 .left) (p1 .smallest-x .ensures) (c .answered .ensures)
+
+pub smallest-x-sound-spec : {M : Type 1} → statement M
+smallest-x-sound-spec =
+    tie.close (tie.spec (λ c κs. search needs) returns (λ c κs. search needs) (λ c κs. search needs) returns-2)
