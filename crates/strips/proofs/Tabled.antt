@@ -12,9 +12,10 @@ use Rattle.rule.specs.Refusals.{Line, answerBy, Left, leftBy, Leaves}
 use Rattle.rule.specs.Test.{isPool, isSound}
 use Rattle.rule.proofs.Tests.{on, neither}
 use Rattle.sound.specs.Promises.{lengthLine, soundLine}
+use Rattle.pool.specs.Asking.{smallestXAnswer, largestXAnswer, smallestYAnswer}
 use Rattle.pool.specs.Changing.{insertion, deletion}
-use Rattle.strips.specs.Strips.{stripPair, over, noStrip}
-use Rattle.strips.specs.Promises.{stripLine, opening, closing}
+use Rattle.strips.specs.Strips.{stripPair, over, noStrip, coversLimits, lastLimits}
+use Rattle.strips.specs.Promises.{stripLine, orderLine, opening, closing, firstToEnd, lastToEnd, earliestStart}
 
 -- a call that is refused by the third line of its table
 pub third-left : (c : List ℕ) (l : Line) (ls : List Line) (d : List ℕ) (w : Left) (r : Answer) → l .when ≡ true
@@ -68,3 +69,61 @@ module _ (c : List ℕ) (start end number : ℕ) where
         let d = neither (over start || over end) (over number) (a .0) in
         let g = neither (over start) (over end) (d .0) in
         (ltb-false 65535 end (g .1), ltb-false 65535 number (d .1))
+
+-- the questions for one strip: backwards slots are backwards limits
+order-same : (u v : ℕ) → ltb (v * 65536 + 65535) (u * 65536) ≡ ltb v u
+order-same u v = on (ltb v u)
+    (λ t. let h = ltb-true v u t in lt-ltb (v * 65536 + 65535) (u * 65536) (omega arith) ∙ sym t)
+    (λ f. let h = ltb-false v u f in le-ltb (v * 65536 + 65535) (u * 65536) (omega arith) ∙ sym f)
+
+pub slot-fits : (u : ℕ) (b : Bool) → b ≡ over u → b ≡ false → u ≤ 65535
+slot-fits u b e f = ltb-false 65535 u (sym e ∙ f)
+
+pub slots-fit : (u v : ℕ) (b : Bool) → b ≡ (over u || over v) → b ≡ false → (u ≤ 65535) × (v ≤ 65535)
+slots-fit u v b e f = let a = neither (over u) (over v) (sym e ∙ f) in (ltb-false 65535 u (a .0), ltb-false 65535 v (a .1))
+
+module _ (c : List ℕ) (u : ℕ) (b : Bool) (eb : b ≡ over u) where
+  pub first-refused : (r : Answer) → b ≡ true → r ≡ answerBy (lengthLine c ∷ soundLine c ∷ []) (refused 9) → r ≡ firstToEnd c u
+  unfolding firstToEnd
+  first-refused r t e = third-answer c (stripLine (over u)) [] _ r (sym eb ∙ t) e
+
+  pub first-asked : (r : Answer) → b ≡ false → r ≡ smallestXAnswer c (coversLimits u) → r ≡ firstToEnd c u
+  unfolding firstToEnd smallestXAnswer answerBy
+  first-asked r f e =
+      let h = slot-fits u b eb f in
+      let o : ltb 4294967295 (u * 65536) ≡ false = le-ltb 4294967295 (u * 65536) (omega arith) in
+      let g : over u ≡ false = sym eb ∙ f in
+      rw g (rw o at e)
+
+module _ (c : List ℕ) (u v : ℕ) (b : Bool) (eb : b ≡ (over u || over v)) where
+  pub last-refused : (r : Answer) → b ≡ true → r ≡ answerBy (lengthLine c ∷ soundLine c ∷ []) (refused 9) → r ≡ lastToEnd c u v
+  unfolding lastToEnd
+  last-refused r t e = third-answer c (stripLine (over u || over v)) (orderLine u v ∷ []) _ r (sym eb ∙ t) e
+
+  pub last-asked : (r : Answer) → b ≡ false → r ≡ largestXAnswer c (lastLimits u v) → r ≡ lastToEnd c u v
+  unfolding lastToEnd largestXAnswer answerBy
+  last-asked r f e =
+      let g : (over u || over v) ≡ false = sym eb ∙ f in
+      rw g (rw (order-same u v) at e)
+
+  pub earliest-refused : (r : Answer) → b ≡ true → r ≡ answerBy (lengthLine c ∷ soundLine c ∷ []) (refused 9) → r ≡ earliestStart c u v
+  unfolding earliestStart
+  earliest-refused r t e = third-answer c (stripLine (over u || over v)) (orderLine u v ∷ []) _ r (sym eb ∙ t) e
+
+  pub earliest-asked : (r : Answer) → b ≡ false → r ≡ smallestYAnswer c (u * 65536) (v * 65536 + 65535) → r ≡ earliestStart c u v
+  unfolding earliestStart smallestYAnswer answerBy
+  earliest-asked r f e =
+      let g : (over u || over v) ≡ false = sym eb ∙ f in
+      rw g (rw (order-same u v) at e)
+
+-- the tests of a strip's numbers, in the code's order
+module _ (start end number : ℕ) (b : Bool) (eb : b ≡ (over start || over end)) where
+  pub slots-over : b ≡ true → true ≡ noStrip start end number
+  slots-over t = rw (sym eb ∙ t)
+
+  module _ (d : Bool) (ed : d ≡ over number) (f : b ≡ false) where
+    pub number-over : d ≡ true → true ≡ noStrip start end number
+    number-over t = rw (sym eb ∙ f, sym ed ∙ t)
+
+    pub end-before : d ≡ false → ltb end start ≡ noStrip start end number
+    end-before g = rw (sym eb ∙ f, sym ed ∙ g)

@@ -1,6 +1,10 @@
 // The strip calls, each a thin call of the pool's with a strip's pair or a question's limits.
+mod ask;
 mod change;
 mod shape;
 
+pub use ask::earliest_start;
+pub use ask::first_to_end;
+pub use ask::last_to_end;
 pub use change::close;
 pub use change::open;

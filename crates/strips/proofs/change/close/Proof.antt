@@ -1,58 +1,35 @@
+-- The strip's numbers decide; then the pair. Assumes nothing.
+use Rattle.strips.proofs.Tabled.{strip-fits, close-refused, close-made}
 use borrow.Author.Needs.{needs}
 use Rattle.strips.proofs.change.close.Statement.{statement}
 use Rattle.strips.proofs.change.close.Tie as tie
-use Rattle.strips.proofs.change.close.Reads as reads
-use Rattle.strips.proofs.change.close.Lts as lts
-use Rattle.pool.proofs.delete.Reads as delete-reads
-use Rattle.strips.proofs.shape.no_strip.Reads as no-strip-reads
-use Rattle.strips.proofs.shape.refuse.Reads as refuse-reads
 
--- src/change.rt:23:8
-no-strip-requires : tie.Need-no-strip-requires
-no-strip-requires c κs = search needs
-
--- src/change.rt:24:9
-refuse-requires : tie.Need-refuse-requires
-refuse-requires c κs = search needs
-
--- src/change.rt:24:9
-same-length : tie.Need-same-length
-same-length c = search needs
-
--- src/change.rt:24:9
 returns : tie.Need-returns
-returns c = ?
+returns c = 
+    let p2 = c .before .before in let p3 = p2 .before in
+    close-refused _ _ _ _ _ (p3 .no-strip .ensures) (p2 .if1 .taken) (c .refuse .ensures)
 
--- src/change.rt:26:25
 mul-delete : tie.Need-mul-delete
-mul-delete c = ?
+mul-delete c = let f = strip-fits (c .before .before .before .before .args .cells .now) (c .before .before .before .before .args .start) (c .before .before .before .before .args .end) (c .before .before .before .before .args .number) _ (c .before .before .no-strip .ensures) (c .before .if1 .left) in search needs
 
--- src/change.rt:26:25
 add-delete : tie.Need-add-delete
-add-delete c = ?
+add-delete c = let f = strip-fits (c .before .before .before .before .args .cells .now) (c .before .before .before .before .args .start) (c .before .before .before .before .args .end) (c .before .before .before .before .args .number) _ (c .before .before .no-strip .ensures) (c .before .if1 .left) in search needs
 
--- src/change.rt:26:5
-delete-requires : tie.Need-delete-requires
-delete-requires c κs = search needs
-
--- src/change.rt:20:1
-same-length-2 : tie.Need-same-length-2
-same-length-2 c = search needs
-
--- src/change.rt:20:1
 returns-2 : tie.Need-returns-2
-returns-2 c = ?
+returns-2 c = 
+    let p2 = c .before .before in let p4 = p2 .before .before in let p5 = p4 .before in
+    close-made _ _ _ _ _ (p5 .no-strip .ensures) (p4 .if1 .left) (p2 .delete .ensures)
 
 pub close-spec : {M : Type 1} → statement M
 close-spec =
     tie.close
     (tie.spec
-    no-strip-requires
-    refuse-requires
-    same-length
+    (λ c κs. search needs)
+    (λ c κs. search needs)
+    (λ c. search needs)
     returns
     mul-delete
     add-delete
-    delete-requires
-    same-length-2
+    (λ c κs. search needs)
+    (λ c. search needs)
     returns-2)

@@ -1,58 +1,35 @@
+-- The strip's numbers decide; then the pair. Assumes nothing.
+use Rattle.strips.proofs.Tabled.{strip-fits, open-refused, open-made}
 use borrow.Author.Needs.{needs}
 use Rattle.strips.proofs.change.open.Statement.{statement}
 use Rattle.strips.proofs.change.open.Tie as tie
-use Rattle.strips.proofs.change.open.Reads as reads
-use Rattle.strips.proofs.change.open.Lts as lts
-use Rattle.pool.proofs.insert.Reads as insert-reads
-use Rattle.strips.proofs.shape.no_strip.Reads as no-strip-reads
-use Rattle.strips.proofs.shape.refuse.Reads as refuse-reads
 
--- src/change.rt:13:8
-no-strip-requires : tie.Need-no-strip-requires
-no-strip-requires c κs = search needs
-
--- src/change.rt:14:9
-refuse-requires : tie.Need-refuse-requires
-refuse-requires c κs = search needs
-
--- src/change.rt:14:9
-same-length : tie.Need-same-length
-same-length c = search needs
-
--- src/change.rt:14:9
 returns : tie.Need-returns
-returns c = ?
+returns c = 
+    let p2 = c .before .before in let p3 = p2 .before in
+    open-refused _ _ _ _ _ (p3 .no-strip .ensures) (p2 .if1 .taken) (c .refuse .ensures)
 
--- src/change.rt:16:25
 mul-insert : tie.Need-mul-insert
-mul-insert c = ?
+mul-insert c = let f = strip-fits (c .before .before .before .before .args .cells .now) (c .before .before .before .before .args .start) (c .before .before .before .before .args .end) (c .before .before .before .before .args .number) _ (c .before .before .no-strip .ensures) (c .before .if1 .left) in search needs
 
--- src/change.rt:16:25
 add-insert : tie.Need-add-insert
-add-insert c = ?
+add-insert c = let f = strip-fits (c .before .before .before .before .args .cells .now) (c .before .before .before .before .args .start) (c .before .before .before .before .args .end) (c .before .before .before .before .args .number) _ (c .before .before .no-strip .ensures) (c .before .if1 .left) in search needs
 
--- src/change.rt:16:5
-insert-requires : tie.Need-insert-requires
-insert-requires c κs = search needs
-
--- src/change.rt:10:1
-same-length-2 : tie.Need-same-length-2
-same-length-2 c = search needs
-
--- src/change.rt:10:1
 returns-2 : tie.Need-returns-2
-returns-2 c = ?
+returns-2 c = 
+    let p2 = c .before .before in let p4 = p2 .before .before in let p5 = p4 .before in
+    open-made _ _ _ _ _ (p5 .no-strip .ensures) (p4 .if1 .left) (p2 .insert .ensures)
 
 pub open-spec : {M : Type 1} → statement M
 open-spec =
     tie.close
     (tie.spec
-    no-strip-requires
-    refuse-requires
-    same-length
+    (λ c κs. search needs)
+    (λ c κs. search needs)
+    (λ c. search needs)
     returns
     mul-insert
     add-insert
-    insert-requires
-    same-length-2
+    (λ c κs. search needs)
+    (λ c. search needs)
     returns-2)

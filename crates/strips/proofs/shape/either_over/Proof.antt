@@ -1,25 +1,18 @@
+-- The two tests, one after the other. Assumes nothing.
+use mathlib.Core.Path.{sym, _∙_}
 use borrow.Author.Needs.{needs}
 use Rattle.strips.proofs.shape.either_over.Statement.{statement}
 use Rattle.strips.proofs.shape.either_over.Tie as tie
-use Rattle.strips.proofs.shape.either_over.Reads as reads
-use Rattle.strips.proofs.shape.either_over.Lts as lts
-use Rattle.strips.proofs.shape.over.Reads as over-reads
 
--- src/shape.rt:31:8
-over-requires : tie.Need-over-requires
-over-requires c κs = search needs
-
--- src/shape.rt:32:9
 returns : tie.Need-returns
-returns c = ?
+returns c = 
+    let p1 = c .before in
+    rw (sym (p1 .over .ensures) ∙ c .if1 .taken)
 
--- src/shape.rt:34:5
-over-requires-2 : tie.Need-over-requires-2
-over-requires-2 c κs = search needs
-
--- src/shape.rt:28:1
 returns-2 : tie.Need-returns-2
-returns-2 c = ?
+returns-2 c = 
+    let p1 = c .before in let p2 = p1 .before in
+    rw (sym (p2 .over .ensures) ∙ p1 .if1 .left) (c .over2 .ensures)
 
 pub either-over-spec : {M : Type 1} → statement M
-either-over-spec = tie.close (tie.spec over-requires returns over-requires-2 returns-2)
+either-over-spec = tie.close (tie.spec (λ c κs. search needs) returns (λ c κs. search needs) returns-2)

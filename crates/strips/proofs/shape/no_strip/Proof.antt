@@ -1,30 +1,23 @@
+-- The tests, one after the other. Assumes nothing.
+use Rattle.strips.proofs.Tabled.{slots-over, number-over, end-before}
 use borrow.Author.Needs.{needs}
 use Rattle.strips.proofs.shape.no_strip.Statement.{statement}
 use Rattle.strips.proofs.shape.no_strip.Tie as tie
-use Rattle.strips.proofs.shape.no_strip.Reads as reads
-use Rattle.strips.proofs.shape.no_strip.Lts as lts
-use Rattle.strips.proofs.shape.either_over.Reads as either-over-reads
-use Rattle.strips.proofs.shape.over.Reads as over-reads
 
--- src/shape.rt:41:8
-either-over-requires : tie.Need-either-over-requires
-either-over-requires c κs = search needs
-
--- src/shape.rt:42:9
 returns : tie.Need-returns
-returns c = ?
+returns c = 
+    let p1 = c .before in let p2 = p1 .before in
+    slots-over (p2 .args .start) (p2 .args .end) (p2 .args .number) _ (p1 .either-over .ensures) (c .if1 .taken)
 
--- src/shape.rt:44:8
-over-requires : tie.Need-over-requires
-over-requires c κs = search needs
-
--- src/shape.rt:45:9
 returns-2 : tie.Need-returns-2
-returns-2 c = ?
+returns-2 c = 
+    let p1 = c .before in let p2 = p1 .before in let p3 = p2 .before in let p4 = p3 .before in
+    number-over (p4 .args .start) (p4 .args .end) (p4 .args .number) _ (p3 .either-over .ensures) _ (p1 .over .ensures) (p2 .if1 .left) (c .if2 .taken)
 
--- src/shape.rt:38:1
 returns-3 : tie.Need-returns-3
-returns-3 c = ?
+returns-3 c = 
+    let p1 = c .before in let p2 = p1 .before in let p3 = p2 .before in let p4 = p3 .before in
+    end-before (p4 .args .start) (p4 .args .end) (p4 .args .number) _ (p3 .either-over .ensures) _ (p1 .over .ensures) (p2 .if1 .left) (c .if2 .left)
 
 pub no-strip-spec : {M : Type 1} → statement M
-no-strip-spec = tie.close (tie.spec either-over-requires returns over-requires returns-2 returns-3)
+no-strip-spec = tie.close (tie.spec (λ c κs. search needs) returns (λ c κs. search needs) returns-2 returns-3)
