@@ -5,6 +5,7 @@ use mathlib.Core.Logic.{_↔_}
 use mathlib.Core.Bool.{Bool, true, false}
 use mathlib.Core.List.{List, [], _∷_, List·Memᴰ}
 use lib.Dec.{ltb}
+use lib.ListN.{length, take}
 use borrow.Author.Tests.{lt-ltb, le-ltb}
 use Rattle.rule.specs.declared.Answer.{Answer}
 use Rattle.rule.specs.declared.Finding.{Finding}
@@ -15,18 +16,21 @@ use Rattle.rule.specs.Answer.{refused}
 use Rattle.rule.specs.Cells.{stored}
 use Rattle.rule.specs.Codes as codes
 use Rattle.rule.specs.Plain.{smallestXOf, largestXOf, smallestYOf}
-use Rattle.rule.specs.Refusals.{answerBy}
+use Rattle.rule.specs.Refusals.{answerBy, Leaves}
 use Rattle.rule.specs.Sound.{Sound}
 use Rattle.rule.specs.Stripe.{rootStripe}
 use Rattle.rule.specs.Tree.{Mem}
-use Rattle.rule.specs.Walks.{smallestX, largestX, smallestY}
+use Rattle.rule.specs.Walks.{smallestX, largestX, smallestY, listing, roomOf, written}
 use Rattle.rule.proofs.AnyOrder.{smallestX-any, largestX-any, smallestY-any}
 use Rattle.rule.proofs.Decided.{sound-tree}
+use Rattle.rule.proofs.Lists.{listing-pairs, listing-more}
 use Rattle.rule.proofs.Stored.{stored-mem}
-use Rattle.rule.proofs.Tables.{answer-refused, answer-passed, answer-none}
+use Rattle.rule.proofs.Tables.{left-refused, left-passed, left-none, answer-refused, answer-passed, answer-none}
+use Rattle.questions.specs.declared.list_walk.Listing.{Listing}
+use Rattle.questions.specs.Listing.{Lent}
 use Rattle.sound.specs.Promises.{lengthLine, soundLine}
-use Rattle.sound.proofs.Lines.{answer-well}
-use Rattle.pool.specs.Asking.{treeOf, backwardsLine, answered, smallestXAnswer, largestXAnswer, smallestYAnswer}
+use Rattle.sound.proofs.Lines.{left-well, answer-well}
+use Rattle.pool.specs.Asking.{treeOf, backwardsLine, answered, smallestXAnswer, largestXAnswer, smallestYAnswer, matchesOf, listedBy, listingLeft}
 use Rattle.pool.proofs.Bounds.{tree-well}
 
 module _ {c : List ℕ} (s : Sound c) where
@@ -64,3 +68,21 @@ module _ {c : List ℕ} (s : Sound c) where
   smallestY-asked x0 x1 w r h e er =
       let W = smallestY x0 x1 rootStripe (treeOf c) in
       forwards x0 x1 (smallestYOf x0 x1 (stored c)) W r h (smallestY-any rootStripe (treeOf c) (tree-well c s) (stored c) tree-stored x0 x1) (rw e at er)
+
+  -- the listing's table
+  pub list-backwards : (q : Limits) (out : List ℕ) {r : Answer} → q .x1 < q .x0 → r ≡ refused codes.backwards → Leaves (listingLeft c q out) out r
+  unfolding listingLeft
+  list-backwards q out h e =
+      rw (left-well s (backwardsLine (q .x0) (q .x1) ∷ []) out) (left-refused (backwardsLine (q .x0) (q .x1)) [] out _ (lt-ltb (q .x1) (q .x0) h) e)
+
+  pub list-made : (q : Limits) (out out′ : List ℕ) (l : Listing) (r : Answer) → q .x0 ≤ q .x1
+      → Lent out (listing q rootStripe (treeOf c) (roomOf out)) out′ l → r ≡ listedBy (l .count) (l .more) (l .visits) → Leaves (listingLeft c q out) out′ r
+  unfolding listingLeft
+  list-made q out out′ l r h L e =
+      let P = listing-pairs q rootStripe (treeOf c) (tree-well c s) (roomOf out) in
+      let M = listing-more q rootStripe (treeOf c) (tree-well c s) (roomOf out) in
+      let ps = take (roomOf out) (matchesOf c q) in
+      let E : listedBy (l .count) (l .more) (l .visits) ≡ listedBy (length ps) (ltb (roomOf out) (length (matchesOf c q))) (listing q rootStripe (treeOf c) (roomOf out) .visits)
+      = λ i. listedBy ((L .count ∙ ap length P) i) ((L .more ∙ M) i) (L .visits i) in
+      rw (left-well s (backwardsLine (q .x0) (q .x1) ∷ []) out, left-passed (backwardsLine (q .x0) (q .x1)) [] out _ (le-ltb (q .x1) (q .x0) h), left-none)
+      (record { cells = L .cells ∙ ap (λ ps. written ps out) P; answer = e ∙ E })

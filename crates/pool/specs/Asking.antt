@@ -1,5 +1,6 @@
 -- What the four questions answer, for every pool and all numbers: the finding is that of a plain scan of the stored list, the visits are the walk's.
 use Prim.Native.Nat.{ℕ}
+use mathlib.Core.Bool.{Bool}
 use mathlib.Core.List.{List, [], _∷_}
 use lib.Dec.{ltb}
 use lib.ListN.{length, take}
@@ -55,14 +56,15 @@ smallestYAnswer c x0 x1 =
 abbrev pub matchesOf : List ℕ → Limits → List Pair
 matchesOf c q = those (matches q) (members (treeOf c))
 
+-- an answer that counts what was listed, and says whether there is more
+abbrev pub listedBy : ℕ → Bool → ℕ → Answer
+listedBy n more v = record { outcome = Listed n more; visits = v }
+
 -- the first matches in walk order, as many as there is room for, and whether there are more
 unfoldable pub listingLeft : List ℕ → Limits → List ℕ → Left
 listingLeft c q out =
     let ps : List Pair = take (roomOf out) (matchesOf c q) in
     leftBy (lengthLine c ∷ soundLine c ∷ backwardsLine (q .x0) (q .x1) ∷ []) out (record {
       cells = written ps out;
-      answer = record {
-        outcome = Listed (length ps) (ltb (roomOf out) (length (matchesOf c q)));
-        visits = listing q rootStripe (treeOf c) (roomOf out) .visits;
-      };
+      answer = listedBy (length ps) (ltb (roomOf out) (length (matchesOf c q))) (listing q rootStripe (treeOf c) (roomOf out) .visits);
     })

@@ -6,3 +6,6 @@ pub mod XWalks
 pub mod SmallestX
 pub mod LargestX
 pub mod YWalk
+pub mod Filling
+pub mod ListWalk
+pub mod ListTop

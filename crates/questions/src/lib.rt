@@ -3,9 +3,12 @@ use rule::Finding;
 ghost use mathlib.Core.Path.{_≡_};
 ghost use Rattle.questions.specs.Walking.{foundAt, Some};
 
+mod list_walk;
 mod x_walks;
 mod y_walk;
 
+pub use list_walk::Listing;
+pub use list_walk::list;
 pub use x_walks::largest_x;
 pub use x_walks::smallest_x;
 pub use y_walk::smallest_y;

@@ -6,7 +6,6 @@ use lib.Dec.{ltb}
 use lib.ListN.{length, take}
 use Rattle.rule.specs.declared.Answer.{Answer}
 use Rattle.rule.specs.declared.Limits.{Limits}
-use Rattle.rule.specs.declared.Outcome.the-variants.{Listed}
 use Rattle.rule.specs.declared.Pair.{Pair}
 use Rattle.rule.specs.Answer.{finished}
 use Rattle.rule.specs.Cells.{stored}
@@ -18,7 +17,7 @@ use Rattle.rule.specs.Stripe.{rootStripe}
 use Rattle.rule.specs.Walks.{smallestX, largestX, smallestY, listing, roomOf, written}
 use Rattle.sound.specs.Promises.{lengthLine, soundLine}
 use Rattle.pool.specs.Changing.{takenLine, fullLine, missingLine, otherLine}
-use Rattle.pool.specs.Asking.{treeOf, answered, matchesOf}
+use Rattle.pool.specs.Asking.{treeOf, answered, matchesOf, listedBy}
 use Rattle.strips.specs.Strips.{stripPair, over, noStrip, coversLimits, lastLimits, meetsLimits, containsLimits}
 
 -- a start, end, number or asked slot over 65,535, or start > end
@@ -65,10 +64,7 @@ listed lines c q out =
     let ps : List Pair = take (roomOf out) (matchesOf c q) in
     leftBy (lengthLine c ∷ soundLine c ∷ lines) out (record {
       cells = written ps out;
-      answer = record {
-        outcome = Listed (length ps) (ltb (roomOf out) (length (matchesOf c q)));
-        visits = listing q rootStripe (treeOf c) (roomOf out) .visits;
-      };
+      answer = listedBy (length ps) (ltb (roomOf out) (length (matchesOf c q))) (listing q rootStripe (treeOf c) (roomOf out) .visits);
     })
 
 unfoldable pub listCovers : List ℕ → ℕ → List ℕ → Left

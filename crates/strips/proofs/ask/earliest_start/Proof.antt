@@ -5,7 +5,7 @@ use Rattle.strips.proofs.ask.earliest_start.Statement.{statement}
 use Rattle.strips.proofs.ask.earliest_start.Tie as tie
 
 returns : tie.Need-returns
-returns c = 
+returns c =
     let p1 = c .before in let p2 = p1 .before in
     earliest-refused _ _ _ _ (p2 .either-over .ensures) _ (p1 .if1 .taken) (c .refuse .ensures)
 
@@ -19,7 +19,7 @@ add-smallest-y : tie.Need-add-smallest-y
 add-smallest-y c = let f = slots-fit (c .before .before .before .args .u) (c .before .before .before .args .v) _ (c .before .either-over .ensures) (c .if1 .left) in search needs
 
 returns-2 : tie.Need-returns-2
-returns-2 c = 
+returns-2 c =
     let p1 = c .before in let p2 = p1 .before in
     earliest-asked _ _ _ _ (p2 .either-over .ensures) _ (p1 .if1 .left) (c .smallest-y .ensures)
 

@@ -5,7 +5,7 @@ use Rattle.strips.proofs.ask.last_to_end.Statement.{statement}
 use Rattle.strips.proofs.ask.last_to_end.Tie as tie
 
 returns : tie.Need-returns
-returns c = 
+returns c =
     let p1 = c .before in let p2 = p1 .before in
     last-refused _ _ _ _ (p2 .either-over .ensures) _ (p1 .if1 .taken) (c .refuse .ensures)
 
@@ -19,7 +19,7 @@ add-largest-x : tie.Need-add-largest-x
 add-largest-x c = let f = slots-fit (c .before .before .before .args .u) (c .before .before .before .args .e) _ (c .before .either-over .ensures) (c .if1 .left) in search needs
 
 returns-2 : tie.Need-returns-2
-returns-2 c = 
+returns-2 c =
     let p1 = c .before in let p2 = p1 .before in
     last-asked _ _ _ _ (p2 .either-over .ensures) _ (p1 .if1 .left) (c .largest-x .ensures)
 

@@ -5,7 +5,7 @@ use Rattle.strips.proofs.change.close.Statement.{statement}
 use Rattle.strips.proofs.change.close.Tie as tie
 
 returns : tie.Need-returns
-returns c = 
+returns c =
     let p2 = c .before .before in let p3 = p2 .before in
     close-refused _ _ _ _ _ (p3 .no-strip .ensures) (p2 .if1 .taken) (c .refuse .ensures)
 
@@ -16,7 +16,7 @@ add-delete : tie.Need-add-delete
 add-delete c = let f = strip-fits (c .before .before .before .before .args .cells .now) (c .before .before .before .before .args .start) (c .before .before .before .before .args .end) (c .before .before .before .before .args .number) _ (c .before .before .no-strip .ensures) (c .before .if1 .left) in search needs
 
 returns-2 : tie.Need-returns-2
-returns-2 c = 
+returns-2 c =
     let p2 = c .before .before in let p4 = p2 .before .before in let p5 = p4 .before in
     close-made _ _ _ _ _ (p5 .no-strip .ensures) (p4 .if1 .left) (p2 .delete .ensures)
 

@@ -7,17 +7,17 @@ use Rattle.strips.proofs.shape.refuse.Statement.{statement}
 use Rattle.strips.proofs.shape.refuse.Tie as tie
 
 returns : tie.Need-returns
-returns c = 
+returns c =
     let p1 = c .before in let p3 = p1 .before .before in
     rw (answer-well (health-sound _ (p3 .health-of .ensures) (p1 .enum-told .given .1)) [], answer-none) (c .refused .ensures)
 
 returns-2 : tie.Need-returns-2
-returns-2 c = 
+returns-2 c =
     let p1 = c .before in let p3 = p1 .before .before in
     answer-ill _ (p3 .health-of .ensures) _ _ (p1 .enum-told2 .given .1) (c .refused2 .ensures)
 
 returns-3 : tie.Need-returns-3
-returns-3 c = 
+returns-3 c =
     let p1 = c .before in let p3 = p1 .before .before in
     answer-odd _ (p3 .health-of .ensures) _ _ (p1 .enum-told3 .given .1) (c .refused3 .ensures)
 
