@@ -1,5 +1,5 @@
 -- The strip calls' tables: a line of their own that does not hold leaves the pool call's table. Assumes nothing.
-use Prim.Native.Nat.{ℕ, _+_, _*_, _≤_}
+use Prim.Native.Nat.{ℕ, _+_, _*_, _≤_, _<_}
 use mathlib.Core.Path.{_≡_, refl, sym, ap, _∙_}
 use mathlib.Core.Bool.{Bool, true, false, _||_}
 use mathlib.Core.List.{List, [], _∷_}
@@ -7,15 +7,16 @@ use native.Mathlib.Omega.{arith}
 use lib.Dec.{ltb}
 use borrow.Author.Tests.{ltb-false, ltb-true, le-ltb, lt-ltb}
 use Rattle.rule.specs.declared.Answer.{Answer}
+use Rattle.rule.specs.declared.Limits.{Limits}
 use Rattle.rule.specs.Answer.{refused}
 use Rattle.rule.specs.Refusals.{Line, answerBy, Left, leftBy, Leaves}
 use Rattle.rule.specs.Test.{isPool, isSound}
 use Rattle.rule.proofs.Tests.{on, neither}
 use Rattle.sound.specs.Promises.{lengthLine, soundLine}
-use Rattle.pool.specs.Asking.{smallestXAnswer, largestXAnswer, smallestYAnswer}
+use Rattle.pool.specs.Asking.{smallestXAnswer, largestXAnswer, smallestYAnswer, listingLeft}
 use Rattle.pool.specs.Changing.{insertion, deletion}
-use Rattle.strips.specs.Strips.{stripPair, over, noStrip, coversLimits, lastLimits}
-use Rattle.strips.specs.Promises.{stripLine, orderLine, opening, closing, firstToEnd, lastToEnd, earliestStart}
+use Rattle.strips.specs.Strips.{stripPair, over, noStrip, coversLimits, lastLimits, meetsLimits, containsLimits}
+use Rattle.strips.specs.Promises.{stripLine, orderLine, opening, closing, firstToEnd, lastToEnd, earliestStart, listed, listCovers, listMeets, listContains}
 
 -- a call that is refused by the third line of its table
 pub third-left : (c : List ℕ) (l : Line) (ls : List Line) (d : List ℕ) (w : Left) (r : Answer) → l .when ≡ true
@@ -127,3 +128,69 @@ module _ (start end number : ℕ) (b : Bool) (eb : b ≡ (over start || over end
 
     pub end-before : d ≡ false → ltb end start ≡ noStrip start end number
     end-before g = rw (sym eb ∙ f, sym ed ∙ g)
+
+-- a call that is refused by the fourth line of its table, the third not holding
+fourth-left : (c : List ℕ) (l m : Line) (ls : List Line) (d : List ℕ) (w : Left) (r : Answer) → l .when ≡ false → m .when ≡ true
+    → r ≡ answerBy (lengthLine c ∷ soundLine c ∷ []) (refused (m .code)) → Leaves (leftBy (lengthLine c ∷ soundLine c ∷ l ∷ m ∷ ls) d w) d r
+unfolding leftBy answerBy
+fourth-left c l m ls d w r f t e = on (isPool c)
+    (λ p. on (isSound c)
+    (λ s. let e′ : r ≡ refused (m .code) = rw (p, s) at e in rw (p, s, f, t) (record { cells = refl; answer = e′ }))
+    (λ s. let e′ : r ≡ refused 2 = rw (p, s) at e in rw (p, s) (record { cells = refl; answer = e′ })))
+    (λ p. let e′ : r ≡ refused 1 = rw p at e in rw p (record { cells = refl; answer = e′ }))
+
+-- the lists
+module _ (c out : List ℕ) (q : Limits) (h : q .x0 ≤ q .x1) where
+  -- limits that are in order leave the lines of the strip call
+  listed-same : (lines : List Line) → ((w : Left) → leftBy lines out w ≡ w) → listed lines c q out ≡ listingLeft c q out
+  unfolding listingLeft leftBy
+  listed-same lines none = rw (le-ltb (q .x1) (q .x0) h, none _)
+
+module _ (c out : List ℕ) (u : ℕ) (b : Bool) (eb : b ≡ over u) where
+  pub covers-refused : {r : Answer} → b ≡ true → r ≡ answerBy (lengthLine c ∷ soundLine c ∷ []) (refused 9) → Leaves (listCovers c u out) out r
+  unfolding listCovers
+  covers-refused t e = third-left c (stripLine (over u)) [] out _ _ (sym eb ∙ t) e
+
+  pub covers-made : {d : List ℕ} {r : Answer} → b ≡ false → Leaves (listingLeft c (coversLimits u) out) d r → Leaves (listCovers c u out) d r
+  unfolding listCovers leftBy
+  covers-made f h =
+      let k = slot-fits u b eb f in
+      let g : over u ≡ false = sym eb ∙ f in
+      rw (listed-same c out (coversLimits u) (omega arith) (stripLine (over u) ∷ []) (λ w. rw g)) h
+
+module _ (c out : List ℕ) (u v : ℕ) (b : Bool) (eb : b ≡ (over u || over v)) where
+  pub meets-refused : {r : Answer} → b ≡ true → r ≡ answerBy (lengthLine c ∷ soundLine c ∷ []) (refused 9) → Leaves (listMeets c u v out) out r
+  unfolding listMeets
+  meets-refused t e = third-left c (stripLine (over u || over v)) (orderLine u v ∷ []) out _ _ (sym eb ∙ t) e
+
+  pub contains-refused : {r : Answer} → b ≡ true → r ≡ answerBy (lengthLine c ∷ soundLine c ∷ []) (refused 9) → Leaves (listContains c u v out) out r
+  unfolding listContains
+  contains-refused t e = third-left c (stripLine (over u || over v)) (orderLine u v ∷ []) out _ _ (sym eb ∙ t) e
+
+  module _ (f : b ≡ false) where
+    pub meets-backwards : {r : Answer} → v < u → r ≡ answerBy (lengthLine c ∷ soundLine c ∷ []) (refused 3) → Leaves (listMeets c u v out) out r
+    unfolding listMeets
+    meets-backwards h e = fourth-left c (stripLine (over u || over v)) (orderLine u v) [] out _ _ (sym eb ∙ f) (lt-ltb v u h) e
+
+    pub contains-backwards : {r : Answer} → v < u → r ≡ answerBy (lengthLine c ∷ soundLine c ∷ []) (refused 3) → Leaves (listContains c u v out) out r
+    unfolding listContains
+    contains-backwards h e = fourth-left c (stripLine (over u || over v)) (orderLine u v) [] out _ _ (sym eb ∙ f) (lt-ltb v u h) e
+
+    module _ (h : u ≤ v) where
+      in-order : (w : Left) → leftBy (stripLine (over u || over v) ∷ orderLine u v ∷ []) out w ≡ w
+      unfolding leftBy
+      in-order w = let g : (over u || over v) ≡ false = sym eb ∙ f in rw (g, le-ltb v u h)
+
+      pub meets-made : {d : List ℕ} {r : Answer} → Leaves (listingLeft c (meetsLimits u v) out) d r → Leaves (listMeets c u v out) d r
+      unfolding listMeets
+      meets-made k =
+          let n = slots-fit u v b eb f in
+          let m = n .0 in
+          rw (listed-same c out (meetsLimits u v) (omega arith) (stripLine (over u || over v) ∷ orderLine u v ∷ []) in-order) k
+
+      pub contains-made : {d : List ℕ} {r : Answer} → Leaves (listingLeft c (containsLimits u v) out) d r → Leaves (listContains c u v out) d r
+      unfolding listContains
+      contains-made k =
+          let n = slots-fit u v b eb f in
+          let m = n .1 in
+          rw (listed-same c out (containsLimits u v) (omega arith) (stripLine (over u || over v) ∷ orderLine u v ∷ []) in-order) k
