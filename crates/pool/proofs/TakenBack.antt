@@ -13,12 +13,12 @@ use Rattle.rule.proofs.Inserted.{inserted-sound}
 use Rattle.rule.proofs.Deleted.{deleted-sound}
 use Rattle.rule.proofs.TakenBack.{inserted-back, inserted-has, deleted-back, deleted-new, deleted-room}
 use Rattle.pool.specs.Changing.{insertion, deletion}
-use Rattle.pool.specs.TakingBack.{Change, insert, delete, perform, reverse, accepted, Ran, run, Returned, takeBack, AllSmall, pairOf}
+use Rattle.pool.specs.TakingBack.{accepted, run, Returned, takeBack, Change, insert, delete, perform, reverse, Each, Small}
 use Rattle.pool.proofs.Views.{insertion-view, deletion-view, insertion-made, deletion-made}
 use Rattle.pool.proofs.Changes.{insertion-sound, deletion-sound, accepted-made, refused-same}
 
 -- one change, taken back
-back : (c : List ℕ) (k : Change) → pairOf k .x < 4294967296 → accepted (perform c k) ≡ true → perform (perform c k .cells) (reverse k) ≡ record { cells = c; answer = finished }
+pub back : (c : List ℕ) (k : Change) → Small k → accepted (perform c k) ≡ true → perform (perform c k .cells) (reverse k) ≡ record { cells = c; answer = finished }
 back c (insert p) b t =
     let m = accepted-made (insertion-view c p) t in
     let e = m .0 in
@@ -32,29 +32,37 @@ back c (delete p) b t =
     rw (m .1) (insertion-made (deleted c (p .x)) p (record { sound = s; new = deleted-new (e .sound) p (e .member) s; room = deleted-room (e .sound) p (e .member) })
     ∙ ap (λ l. record { cells = l; answer = finished }) (deleted-back (e .sound) p (e .member)))
 
-same : (c : List ℕ) (k : Change) → accepted (perform c k) ≡ false → perform c k .cells ≡ c
+pub same : (c : List ℕ) (k : Change) → accepted (perform c k) ≡ false → perform c k .cells ≡ c
 same c (insert p) f = refused-same (insertion-view c p) f
 same c (delete p) f = refused-same (deletion-view c p) f
 
-pub perform-sound : (c : List ℕ) (k : Change) → pairOf k .x < 4294967296 → Sound c → Sound (perform c k .cells)
+pub perform-sound : (c : List ℕ) (k : Change) → Small k → Sound c → Sound (perform c k .cells)
 perform-sound c (insert p) b s = insertion-sound c p b s
 perform-sound c (delete p) b s = deletion-sound c p s
 
--- what was done before is taken back from c to z: so it is after one more change
-step : (c : List ℕ) (k : Change) (done : List Change) (z : Returned) → pairOf k .x < 4294967296 → takeBack done c ≡ z → z .all ≡ true
-    → takeBack (cond (accepted (perform c k)) (k ∷ done) done) (perform c k .cells) ≡ z
-unfolding takeBack five numbersOf
-step c k done z b h a = on (accepted (perform c k))
-    (λ t. rw (t, back c k b t) h)
-    (λ f. rw (f, same c k f) h)
+-- any kind of changes of which each can be taken back, and of which a refused one leaves every cell
+module _ {K : Type 0} (perform : List ℕ → K → Left) (reverse : K → K) (Good : K → Type 0)
+    (undo : (c : List ℕ) (k : K) → Good k → accepted (perform c k) ≡ true → perform (perform c k .cells) (reverse k) ≡ record { cells = c; answer = finished })
+    (stay : (c : List ℕ) (k : K) → accepted (perform c k) ≡ false → perform c k .cells ≡ c) where
+  -- what was done before is taken back from c to z: so it is after one more change
+  step : (c : List ℕ) (k : K) (done : List K) (z : Returned) → Good k → takeBack perform reverse done c ≡ z
+      → takeBack perform reverse (cond (accepted (perform c k)) (k ∷ done) done) (perform c k .cells) ≡ z
+  unfolding takeBack five numbersOf
+  step c k done z b h = on (accepted (perform c k)) (λ t. rw (t, undo c k b t) h) (λ f. rw (f, stay c k f) h)
 
-go : (ks : List Change) (c : List ℕ) (done : List Change) (z : Returned) → AllSmall ks → takeBack done c ≡ z → z .all ≡ true
-    → takeBack (run ks c done .done) (run ks c done .cells) ≡ z
-unfolding run
-go [] c done z b h a = h
-go (k ∷ ks) c done z b h a = go ks (perform c k .cells) (cond (accepted (perform c k)) (k ∷ done) done) z (b .1) (step c k done z (b .0) h a) a
+  go : (ks : List K) (c : List ℕ) (done : List K) (z : Returned) → Each Good ks → takeBack perform reverse done c ≡ z
+      → takeBack perform reverse (run perform ks c done .done) (run perform ks c done .cells) ≡ z
+  unfolding run
+  go [] c done z b h = h
+  go (k ∷ ks) c done z b h = go ks (perform c k .cells) (cond (accepted (perform c k)) (k ∷ done) done) z (b .1) (step c k done z (b .0) h)
 
--- law: taking back is exact, from any pool, for any run of changes
-pub taken-back : (ks : List Change) (c : List ℕ) → AllSmall ks → takeBack (run ks c [] .done) (run ks c [] .cells) ≡ record { cells = c; all = true }
-unfolding takeBack
-taken-back ks c b = go ks c [] (record { cells = c; all = true }) b refl refl
+  -- law: taking back is exact, from any cells, for any run
+  pub back-exact : (ks : List K) (c : List ℕ) → Each Good ks
+      → takeBack perform reverse (run perform ks c [] .done) (run perform ks c [] .cells) ≡ record { cells = c; all = true }
+  unfolding takeBack
+  back-exact ks c b = go ks c [] (record { cells = c; all = true }) b refl
+
+-- law: for inserts and deletes with any numbers of 32 bits
+pub taken-back : (ks : List Change) (c : List ℕ) → Each Small ks
+    → takeBack perform reverse (run perform ks c [] .done) (run perform ks c [] .cells) ≡ record { cells = c; all = true }
+taken-back = back-exact perform reverse Small back same

@@ -72,7 +72,7 @@ module _ (c : List ℕ) (start end number : ℕ) where
         (ltb-false 65535 end (g .1), ltb-false 65535 number (d .1))
 
 -- the questions for one strip: backwards slots are backwards limits
-order-same : (u v : ℕ) → ltb (v * 65536 + 65535) (u * 65536) ≡ ltb v u
+pub order-same : (u v : ℕ) → ltb (v * 65536 + 65535) (u * 65536) ≡ ltb v u
 order-same u v = on (ltb v u)
     (λ t. let h = ltb-true v u t in lt-ltb (v * 65536 + 65535) (u * 65536) (omega arith) ∙ sym t)
     (λ f. let h = ltb-false v u f in le-ltb (v * 65536 + 65535) (u * 65536) (omega arith) ∙ sym f)
@@ -142,7 +142,7 @@ fourth-left c l m ls d w r f t e = on (isPool c)
 -- the lists
 module _ (c out : List ℕ) (q : Limits) (h : q .x0 ≤ q .x1) where
   -- limits that are in order leave the lines of the strip call
-  listed-same : (lines : List Line) → ((w : Left) → leftBy lines out w ≡ w) → listed lines c q out ≡ listingLeft c q out
+  pub listed-same : (lines : List Line) → ((w : Left) → leftBy lines out w ≡ w) → listed lines c q out ≡ listingLeft c q out
   unfolding listingLeft leftBy
   listed-same lines none = rw (le-ltb (q .x1) (q .x0) h, none _)
 
@@ -151,12 +151,15 @@ module _ (c out : List ℕ) (u : ℕ) (b : Bool) (eb : b ≡ over u) where
   unfolding listCovers
   covers-refused t e = third-left c (stripLine (over u)) [] out _ _ (sym eb ∙ t) e
 
-  pub covers-made : {d : List ℕ} {r : Answer} → b ≡ false → Leaves (listingLeft c (coversLimits u) out) d r → Leaves (listCovers c u out) d r
+  pub covers-is : b ≡ false → listCovers c u out ≡ listingLeft c (coversLimits u) out
   unfolding listCovers leftBy
-  covers-made f h =
+  covers-is f =
       let k = slot-fits u b eb f in
       let g : over u ≡ false = sym eb ∙ f in
-      rw (listed-same c out (coversLimits u) (omega arith) (stripLine (over u) ∷ []) (λ w. rw g)) h
+      listed-same c out (coversLimits u) (omega arith) (stripLine (over u) ∷ []) (λ w. rw g)
+
+  pub covers-made : {d : List ℕ} {r : Answer} → b ≡ false → Leaves (listingLeft c (coversLimits u) out) d r → Leaves (listCovers c u out) d r
+  covers-made f h = rw (covers-is f) h
 
 module _ (c out : List ℕ) (u v : ℕ) (b : Bool) (eb : b ≡ (over u || over v)) where
   pub meets-refused : {r : Answer} → b ≡ true → r ≡ answerBy (lengthLine c ∷ soundLine c ∷ []) (refused 9) → Leaves (listMeets c u v out) out r
@@ -177,20 +180,26 @@ module _ (c out : List ℕ) (u v : ℕ) (b : Bool) (eb : b ≡ (over u || over v
     contains-backwards h e = fourth-left c (stripLine (over u || over v)) (orderLine u v) [] out _ _ (sym eb ∙ f) (lt-ltb v u h) e
 
     module _ (h : u ≤ v) where
-      in-order : (w : Left) → leftBy (stripLine (over u || over v) ∷ orderLine u v ∷ []) out w ≡ w
+      pub in-order : (w : Left) → leftBy (stripLine (over u || over v) ∷ orderLine u v ∷ []) out w ≡ w
       unfolding leftBy
       in-order w = let g : (over u || over v) ≡ false = sym eb ∙ f in rw (g, le-ltb v u h)
 
-      pub meets-made : {d : List ℕ} {r : Answer} → Leaves (listingLeft c (meetsLimits u v) out) d r → Leaves (listMeets c u v out) d r
+      pub meets-is : listMeets c u v out ≡ listingLeft c (meetsLimits u v) out
       unfolding listMeets
-      meets-made k =
+      meets-is =
           let n = slots-fit u v b eb f in
           let m = n .0 in
-          rw (listed-same c out (meetsLimits u v) (omega arith) (stripLine (over u || over v) ∷ orderLine u v ∷ []) in-order) k
+          listed-same c out (meetsLimits u v) (omega arith) (stripLine (over u || over v) ∷ orderLine u v ∷ []) in-order
 
-      pub contains-made : {d : List ℕ} {r : Answer} → Leaves (listingLeft c (containsLimits u v) out) d r → Leaves (listContains c u v out) d r
+      pub meets-made : {d : List ℕ} {r : Answer} → Leaves (listingLeft c (meetsLimits u v) out) d r → Leaves (listMeets c u v out) d r
+      meets-made k = rw meets-is k
+
+      pub contains-is : listContains c u v out ≡ listingLeft c (containsLimits u v) out
       unfolding listContains
-      contains-made k =
+      contains-is =
           let n = slots-fit u v b eb f in
           let m = n .1 in
-          rw (listed-same c out (containsLimits u v) (omega arith) (stripLine (over u || over v) ∷ orderLine u v ∷ []) in-order) k
+          listed-same c out (containsLimits u v) (omega arith) (stripLine (over u || over v) ∷ orderLine u v ∷ []) in-order
+
+      pub contains-made : {d : List ℕ} {r : Answer} → Leaves (listingLeft c (containsLimits u v) out) d r → Leaves (listContains c u v out) d r
+      contains-made k = rw contains-is k
