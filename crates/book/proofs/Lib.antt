@@ -1,2 +1,5 @@
--- The laws on the pairs by ascending x, and what the book means.
+-- The laws on the pairs by ascending x and on written bytes, and what the book means.
 pub mod Ascending
+pub mod Bytes
+pub mod Next
+pub mod Entry

@@ -1,0 +1,50 @@
+-- Writing the book of a sound pool, a way out at a time. Assumes nothing.
+use Prim.Native.Nat.{ℕ, _+_, _*_, _≤_, _<_}
+use mathlib.Core.Path.{_≡_, sym, _∙_}
+use mathlib.Core.List.{List, [], _∷_}
+use native.Mathlib.Omega.{arith}
+use lib.ListN.{length}
+use borrow.Author.Tests.{lt-ltb, le-ltb}
+use Rattle.rule.specs.declared.Answer.{Answer}
+use Rattle.rule.specs.Answer.{finished, refused}
+use Rattle.rule.specs.Cells.{countOf, stored}
+use Rattle.rule.specs.Codes as codes
+use Rattle.rule.specs.Refusals.{Leaves}
+use Rattle.rule.specs.Sound.{Sound}
+use Rattle.rule.proofs.Stored.{stored-count}
+use Rattle.rule.proofs.Tables.{left-refused, left-passed, left-none}
+use Rattle.sound.proofs.Lines.{left-well}
+use Rattle.book.specs.Book.{byX, body, bytesFor}
+use Rattle.book.specs.Promises.{shortLine, saved}
+use Rattle.book.specs.Writing.{written, headBytes, headerOf}
+use Rattle.book.proofs.Bytes.{length-written, whole-book}
+
+module _ (c o : List ℕ) (S : Sound c) (n : ℕ) (en : n ≡ countOf c) where
+  as-stored : n ≡ length (stored c)
+  as-stored = en ∙ sym (stored-count S)
+
+  -- law: fewer bytes than the book has
+  pub too-short : {r : Answer} → length o < headBytes + 8 * n → r ≡ refused codes.short → Leaves (saved c o) o r
+  unfolding saved
+  too-short h e =
+      let z = as-stored in
+      rw (left-well S (shortLine c o ∷ []) o _) (left-refused (shortLine c o) [] o _ (lt-ltb (length o) (bytesFor (length (stored c))) (omega arith)) e)
+
+  module _ (h : headBytes + 8 * n ≤ length o) (o1 : List ℕ) (e1 : o1 ≡ written o 0 (headerOf n)) where
+    -- law: behind the header there is room for the pairs
+    pub still-room : bytesFor (length (stored c)) ≤ length o1
+    still-room =
+        let z = as-stored in
+        let l : length o1 ≡ length o = rw e1 (length-written o 0 (headerOf n)) in
+        omega arith
+
+    -- law: the header and the pairs are the book
+    pub all-saved : (o2 : List ℕ) {r : Answer} → o2 ≡ written o1 headBytes (body (byX (stored c))) → r ≡ finished → Leaves (saved c o) o2 r
+    unfolding saved
+    all-saved o2 e2 e =
+        let z = as-stored in
+        rw (
+          left-well S (shortLine c o ∷ []) o _,
+          left-passed (shortLine c o) [] o _ (le-ltb (length o) (bytesFor (length (stored c))) (omega arith)),
+          left-none o _,
+        ) (record { cells = whole-book o o1 o2 (stored c) n z h e1 e2; answer = e })
