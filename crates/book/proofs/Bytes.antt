@@ -1,4 +1,4 @@
--- Bytes stored one after the other from a place on: words, pairs, the whole book. Assumes nothing.
+-- Bytes stored one after the other from a place on: words, pairs, the whole book.
 use Prim.Native.Nat.{ℕ, suc, _+_, _*_, _/_, _%_, _≤_}
 use mathlib.Core.Path.{_≡_, refl, sym, ap, _∙_}
 use mathlib.Core.List.{List, [], _∷_, _++_}

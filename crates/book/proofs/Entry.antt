@@ -1,4 +1,4 @@
--- Writing the book of a sound pool, a way out at a time. Assumes nothing.
+-- Writing the book of a sound pool, a way out at a time.
 use Prim.Native.Nat.{ℕ, _+_, _*_, _≤_, _<_}
 use mathlib.Core.Path.{_≡_, sym, _∙_}
 use mathlib.Core.List.{List, [], _∷_}

@@ -1,4 +1,4 @@
--- The loop over the stored pairs, a turn at a time: what the walk finds is the first of those still to be written. Assumes nothing.
+-- The loop over the stored pairs, a turn at a time: what the walk finds is the first of those still to be written.
 use Prim.Native.Nat.{ℕ, zero, suc, _+_, _*_, _≤_, _<_}
 use mathlib.Core.Path.{_≡_, refl, sym, ap, _∙_}
 use mathlib.Core.Logic.{⊎-elim}
@@ -14,7 +14,7 @@ use Rattle.rule.specs.declared.Finding.the-variants.{Found, Nothing}
 use Rattle.rule.specs.declared.Pair.{Pair}
 use Rattle.rule.specs.declared.Walked.{Walked}
 use Rattle.rule.specs.Cells.{perSlot, isFree, rootOf, storedFrom, stored, treeAt}
-use Rattle.rule.specs.Plain.{matches, those, smaller, smallestXOf}
+use Rattle.rule.specs.Plain.{limits, matches, those, smaller, smallestXOf}
 use Rattle.rule.specs.Sound.{Sound, allLevels}
 use Rattle.rule.specs.Stripe.{rootStripe}
 use Rattle.rule.specs.Walks.{smallestX}
@@ -23,7 +23,6 @@ use Rattle.rule.proofs.Decided.{sound-well, sound-tree}
 use Rattle.rule.proofs.Scan.{Closest, smallestXOf-found, smallestXOf-nothing}
 use Rattle.rule.proofs.Stored.{stored-mem, stored-apart}
 use Rattle.rule.proofs.Tests.{on, clash, both, and-true}
-use Rattle.questions.specs.Walking.{limits}
 use Rattle.book.specs.Book.{word, byX, body, bytesFor}
 use Rattle.book.specs.Writing.{written, headBytes}
 use Rattle.book.proofs.Ascending.{atLeast, byX-first, byX-all, length-byX}

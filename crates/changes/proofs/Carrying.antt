@@ -1,4 +1,4 @@
--- A pair that goes down, one level at a time. Assumes nothing.
+-- A pair that goes down, one level at a time.
 use Prim.Native.Nat.{ℕ, zero, suc, _+_, _*_, _-_, _/_, _≤_, _<_}
 use mathlib.Core.Path.{_≡_, refl, sym, ap, _∙_, subst}
 use mathlib.Core.Logic.{_≢_, ⊎-elim}

@@ -1,4 +1,4 @@
--- A deletion from a sound pool: a removal from the root, and the count less one. Assumes nothing.
+-- A deletion from a sound pool: a removal from the root, and the count less one.
 use Prim.Native.Nat.{ℕ, _-_, _/_, _≤_}
 use mathlib.Core.Path.{_≡_, refl, ap, _∙_}
 use mathlib.Core.Logic.{_≢_}

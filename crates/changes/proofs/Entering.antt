@@ -1,4 +1,4 @@
--- A pair that enters a sound pool: it goes down from the root, and the count moves. Assumes nothing.
+-- A pair that enters a sound pool: it goes down from the root, and the count moves.
 use Prim.Native.Nat.{ℕ, _+_, _≤_, _<_}
 use mathlib.Core.Path.{_≡_, refl, sym, _∙_}
 use mathlib.Core.Logic.{_≢_}

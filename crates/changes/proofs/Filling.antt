@@ -1,4 +1,4 @@
--- The filling of a hole, a step at a time. Assumes nothing.
+-- The filling of a hole, a step at a time.
 use Prim.Native.Nat.{ℕ, suc, _-_}
 use mathlib.Core.Path.{_≡_, refl, sym, ap, _∙_}
 use mathlib.Core.Logic.{_≢_}

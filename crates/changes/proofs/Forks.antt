@@ -1,4 +1,4 @@
--- A slot seen from one of its sons, so that a law over both sides is stated once. Assumes nothing.
+-- A slot seen from one of its sons, so that a law over both sides is stated once.
 use Prim.Native.Nat.{ℕ, suc, _+_, _*_, _/_, _≤_}
 use mathlib.Core.Path.{_≡_, refl}
 use mathlib.Core.Logic.{_≢_, _⊎_, inl, inr}

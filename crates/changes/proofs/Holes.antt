@@ -1,5 +1,5 @@
 -- A place, and the place of a son of its slot: what is known of the first is known of the second, and what is freed at the second is freed at the first.
--- Assumes nothing.
+--
 use Prim.Native.Nat.{ℕ, _+_, _*_, _-_, _/_}
 use mathlib.Core.Path.{_≡_, refl, sym, ap, _∙_}
 use mathlib.Core.Logic.{_≢_}

@@ -1,4 +1,4 @@
--- The search for a pair and what it ends with, a step at a time. Assumes nothing.
+-- The search for a pair and what it ends with, a step at a time.
 use Prim.Native.Nat.{ℕ, suc, _+_, _-_, _^_, _≤_, _<_}
 use mathlib.Core.Path.{_≡_, refl, sym, ap, _∙_}
 use mathlib.Core.Logic.{_≢_, ⊎-elim}

@@ -1,4 +1,4 @@
--- A place that was replaced: what agrees with what was, and how a son's place that was replaced is one of its father's. Assumes nothing.
+-- A place that was replaced: what agrees with what was, and how a son's place that was replaced is one of its father's.
 use Prim.Native.Nat.{ℕ, _+_, _*_, _/_}
 use mathlib.Core.Path.{_≡_, sym, _∙_, subst}
 use mathlib.Core.Logic.{_≢_}

@@ -1,4 +1,4 @@
--- A slot by a side: the near tree stands on that side, the far one on the other. Assumes nothing.
+-- A slot by a side: the near tree stands on that side, the far one on the other.
 use Prim.Native.Nat.{ℕ, suc, _+_, _*_, _≤_, _<_}
 use mathlib.Core.Path.{_≡_, refl}
 use mathlib.Core.Logic.{_≢_}

@@ -1,4 +1,4 @@
--- The search below a slot, a step at a time. Assumes nothing.
+-- The search below a slot, a step at a time.
 use Prim.Native.Nat.{ℕ, suc, _-_}
 use mathlib.Core.Path.{_≡_, refl, sym, _∙_}
 use mathlib.Core.Bool.{Bool, true, false, cond}

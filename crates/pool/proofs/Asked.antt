@@ -1,4 +1,4 @@
--- The questions' entries, a way out at a time: the walk's finding is the plain scan's. Assumes nothing.
+-- The questions' entries, a way out at a time: the walk's finding is the plain scan's.
 use Prim.Native.Nat.{ℕ, _≤_, _<_}
 use mathlib.Core.Path.{_≡_, refl, sym, ap, _∙_}
 use mathlib.Core.Logic.{_↔_}

@@ -1,12 +1,14 @@
--- The bounds on visits, for every pool and all numbers: a refusal reports none, and a sound pool's tree has 33 levels at most. Assumes nothing.
+-- The bounds on visits, for every pool and all numbers: a refusal reports none, and a sound pool's tree has 33 levels at most.
 use Prim.Native.Nat.{ℕ, _+_, _*_, _≤_}
+use mathlib.Core.Bool.{Bool}
 use mathlib.Core.List.{List, [], _∷_}
 use native.Mathlib.Omega.{arith}
 use lib.Dec.{ltb}
 use lib.ListN.{length, take}
 use Rattle.rule.specs.declared.Answer.{Answer}
 use Rattle.rule.specs.declared.Limits.{Limits}
-use Rattle.rule.specs.Refusals.{Line, answerBy, leftBy}
+use Rattle.rule.specs.Answer.{five, refused}
+use Rattle.rule.specs.Refusals.{Line, answerBy, Left, leftBy}
 use Rattle.rule.specs.Sound.{Sound, itself}
 use Rattle.rule.specs.Stripe.{rootStripe}
 use Rattle.rule.specs.Test.{isPool, isSound}
@@ -16,9 +18,10 @@ use Rattle.rule.proofs.Tests.{on}
 use Rattle.rule.proofs.Decided.{test-sound, sound-well, sound-tree}
 use Rattle.rule.proofs.Lists.{listing-pairs}
 use Rattle.rule.proofs.ListVisits.{listing-visits}
+use Rattle.rule.proofs.Numbers.{five-visits, five-count, refused-numbers}
 use Rattle.rule.proofs.Visits.{smallestX-visits, largestX-visits, smallestY-visits}
 use Rattle.sound.specs.Promises.{lengthLine, soundLine}
-use Rattle.pool.specs.Asking.{treeOf, smallestXAnswer, largestXAnswer, smallestYAnswer, matchesOf, listingLeft}
+use Rattle.pool.specs.Asking.{treeOf, smallestXAnswer, largestXAnswer, smallestYAnswer, matchesOf, listedBy, listedOf, backwardsLine, listingLeft}
 
 pub tree-well : (c : List ℕ) → Sound c → Well itself rootStripe (treeOf c)
 tree-well c s = rw (sound-tree c s) (sound-well c s)
@@ -35,32 +38,62 @@ table-visits c ls a n h = on (isPool c)
     (λ p. rw p (on (isSound c) (λ t. rw t (lines-visits ls a n (h (test-sound c t)))) (λ f. rw f (omega arith))))
     (λ p. rw p (omega arith))
 
-module _ (c : List ℕ) where
-  -- law: smallest and largest x; 01 asks for 189
-  pub smallestX-bound : (q : Limits) → smallestXAnswer c q .visits ≤ 127
-  unfolding smallestXAnswer
-  smallestX-bound q = table-visits c _ _ 127 (λ s. smallestX-visits q (treeOf c) (tree-well c s))
+-- and so it is with the visits that are reported
+reported : (a : Answer) (n : ℕ) → a .visits ≤ n → five a .visits ≤ n
+reported a n h = let k = five-visits a in omega arith
 
-  pub largestX-bound : (q : Limits) → largestXAnswer c q .visits ≤ 127
+-- at most 127 visits, and two more for each pair listed
+abbrev pub Listed : Answer → Type 0
+Listed a = five a .visits ≤ 127 + 2 * five a .count
+
+refusal-bound : (k : ℕ) → Listed (refused k)
+refusal-bound k = rw (refused-numbers k) (omega arith)
+
+lines-listed : (ls : List Line) (o : List ℕ) (w : Left) → Listed (w .answer) → Listed (leftBy ls o w .answer)
+unfolding leftBy
+lines-listed [] o w h = h
+lines-listed (l ∷ ls) o w h = let r = lines-listed ls o w h in on (l .when) (λ t. rw t (refusal-bound (l .code))) (λ f. rw f r)
+
+-- what is listed reports its count
+counted : (n : ℕ) (more : Bool) (v : ℕ) → v ≤ 127 + 2 * n → Listed (listedBy n more v)
+counted n more v h = let k = five-visits (listedBy n more v) in rw (five-count n more v) (omega arith)
+
+module _ (c : List ℕ) where
+  -- law: what a table with the pool's own lines reports is bounded where the answer's visits are, on a sound pool
+  pub table-bound : (ls : List Line) (a : Answer) (n : ℕ) → (Sound c → a .visits ≤ n) → five (answerBy (lengthLine c ∷ soundLine c ∷ ls) a) .visits ≤ n
+  table-bound ls a n h = reported (answerBy (lengthLine c ∷ soundLine c ∷ ls) a) n (table-visits c ls a n h)
+
+  -- law: smallest and largest x; 01 asks for 189
+  pub smallestX-bound : (q : Limits) → five (smallestXAnswer c q) .visits ≤ 127
+  unfolding smallestXAnswer
+  smallestX-bound q = table-bound _ _ 127 (λ s. smallestX-visits q (treeOf c) (tree-well c s))
+
+  pub largestX-bound : (q : Limits) → five (largestXAnswer c q) .visits ≤ 127
   unfolding largestXAnswer
-  largestX-bound q = table-visits c _ _ 127 (λ s. largestX-visits q (treeOf c) (tree-well c s))
+  largestX-bound q = table-bound _ _ 127 (λ s. largestX-visits q (treeOf c) (tree-well c s))
 
   -- law: smallest y
-  pub smallestY-bound : (x0 x1 : ℕ) → smallestYAnswer c x0 x1 .visits ≤ 127
+  pub smallestY-bound : (x0 x1 : ℕ) → five (smallestYAnswer c x0 x1) .visits ≤ 127
   unfolding smallestYAnswer
-  smallestY-bound x0 x1 = table-visits c _ _ 127 (λ s. smallestY-visits x0 x1 (treeOf c) (tree-well c s))
+  smallestY-bound x0 x1 = table-bound _ _ 127 (λ s. smallestY-visits x0 x1 (treeOf c) (tree-well c s))
 
-  -- law: a listing, by the number listed
-  pub listing-bound : (q : Limits) (out : List ℕ) → Sound c
+  -- a listing on a sound pool, by the number listed
+  listing-bound : (q : Limits) (out : List ℕ) → Sound c
       → listing q rootStripe (treeOf c) (roomOf out) .visits ≤ 127 + 2 * length (take (roomOf out) (matchesOf c q))
   listing-bound q out s =
       rw (listing-pairs q rootStripe (treeOf c) (tree-well c s) (roomOf out)) at (listing-visits q (treeOf c) (tree-well c s) (roomOf out))
 
-  -- law: so the answer's visits, on any pool
-  pub list-bound : (q : Limits) (out : List ℕ) → listingLeft c q out .answer .visits ≤ 127 + 2 * length (take (roomOf out) (matchesOf c q))
-  unfolding listingLeft leftBy
-  list-bound q out = on (isPool c)
+  -- law: what a table with the pool's own lines reports of a listing, whichever lines stand behind them
+  pub listed-bound : (ls : List Line) (q : Limits) (out : List ℕ)
+      → Listed (leftBy (lengthLine c ∷ soundLine c ∷ ls) out (listedOf c q out) .answer)
+  unfolding leftBy
+  listed-bound ls q out = on (isPool c)
       (λ p. rw p (on (isSound c)
-      (λ t. rw t (on (ltb (q .x1) (q .x0)) (λ b. rw b (omega arith)) (λ b. rw b (listing-bound q out (test-sound c t)))))
-      (λ f. rw f (omega arith))))
-      (λ p. rw p (omega arith))
+      (λ t. rw t (lines-listed ls out (listedOf c q out) (counted _ _ _ (listing-bound q out (test-sound c t)))))
+      (λ f. rw f (refusal-bound 2))))
+      (λ p. rw p (refusal-bound 1))
+
+  -- law: a listing, by the number that it reports
+  pub list-bound : (q : Limits) (out : List ℕ) → Listed (listingLeft c q out .answer)
+  unfolding listingLeft
+  list-bound q out = listed-bound (backwardsLine (q .x0) (q .x1) ∷ []) q out

@@ -1,4 +1,4 @@
--- After a change the pool is sound, and its stored set is the old one with exactly that pair more or less. Assumes nothing.
+-- After a change the pool is sound, and its stored set is the old one with exactly that pair more or less.
 use Prim.Native.Nat.{ℕ, _<_}
 use mathlib.Core.Path.{_≡_, refl}
 use mathlib.Core.Logic.{_≢_, _↔_, _⊎_}

@@ -1,4 +1,4 @@
--- The entries, a way out at a time. Assumes nothing.
+-- The entries, a way out at a time.
 use Prim.Native.Nat.{ℕ}
 use mathlib.Core.Path.{_≡_, refl, sym, _∙_}
 use mathlib.Core.Logic.{_≢_}

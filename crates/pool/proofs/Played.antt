@@ -1,4 +1,4 @@
--- Playing calls over a sound pool gives, call by call, the outcomes of the same calls over a plain list with the same pairs. Assumes nothing.
+-- Playing calls over a sound pool gives, call by call, the outcomes of the same calls over a plain list with the same pairs.
 use Prim.Native.Nat.{ℕ, _+_, _-_, _≤_, _<_}
 use mathlib.Core.Path.{_≡_, refl, sym, ap, _∙_}
 use mathlib.Core.Logic.{_≢_, _↔_, _⊎_, inl, inr, ⊎-elim}

@@ -1,8 +1,8 @@
--- What the questions' promises give on a sound pool: the walks' findings, over any list with the stored pairs. Assumes nothing.
+-- What the questions' promises give on a sound pool: the walks' findings, over any list with the stored pairs.
 use Prim.Native.Nat.{ℕ, min, _≤_}
 use mathlib.Core.Path.{_≡_, refl, sym, ap, _∙_}
 use mathlib.Core.Logic.{_↔_}
-use mathlib.Core.Bool.{Bool, cond}
+use mathlib.Core.Bool.{Bool, true, false, cond}
 use mathlib.Core.List.{List, map, List·Memᴰ}
 use lib.Dec.{ltb}
 use lib.ListN.{length, take, length-take}
@@ -24,7 +24,9 @@ use Rattle.rule.proofs.Decided.{true-pool, sound-test, sound-well, sound-tree}
 use Rattle.rule.proofs.Members.{members-mem, well-apart}
 use Rattle.rule.proofs.Scan.{Alike, smallestXOf-alike, largestXOf-alike, smallestYOf-alike}
 use Rattle.rule.proofs.Stored.{stored-mem, stored-apart}
+use Rattle.rule.proofs.Those.{those-mem, those-apart}
 use Rattle.pool.specs.Asking.{treeOf, outcomeOf, smallestXAnswer, largestXAnswer, smallestYAnswer, matchesOf, listingLeft}
+use Rattle.pool.specs.Showing.{Shows}
 use Rattle.rule.specs.Walks.{roomOf}
 
 -- a question's outcome, unless its limits are backwards
@@ -74,3 +76,19 @@ module _ {c : List ℕ} (s : Sound c) where
     listing-plain a q out =
         rw (true-pool c (s .pool), sound-test c s, ← (matches-count a q), ← (length-take (roomOf out) (matchesOf c q)))
         (on (ltb (q .x1) (q .x0)) (λ e. rw e) (λ e. rw e))
+
+  -- law: a listing shows exactly the stored pairs in its limits, each once
+  pub listing-shows : (q : Limits) (out : List ℕ) → ltb (q .x1) (q .x0) ≡ false → Shows c out (λ p. matches q p ≡ true) (listingLeft c q out)
+  unfolding listingLeft leftBy
+  listing-shows q out o =
+      let t : (p : Pair) → List·Memᴰ p (matchesOf c q) ↔ (List·Memᴰ p (members (treeOf c)) × (matches q p ≡ true)) =
+      λ p. those-mem (matches q) p (members (treeOf c)) in
+      let e = true-pool c (s .pool) in
+      let f = sound-test c s in
+      record {
+        all = matchesOf c q;
+        exactly = λ p. (λ m. (members-stored p .0 (t p .0 m .0), t p .0 m .1), λ k. t p .1 (members-stored p .1 (k .0), k .1));
+        once = those-apart (matches q) (members (treeOf c)) members-apart;
+        cells = rw (e, f, o);
+        outcome = rw (e, f, o);
+      }

@@ -1,4 +1,4 @@
--- What a change does, taken apart: it refuses and leaves every cell, or the pool is sound and the change is made. Assumes nothing.
+-- What a change does, taken apart: it refuses and leaves every cell, or the pool is sound and the change is made.
 use Prim.Native.Nat.{ℕ}
 use mathlib.Core.Path.{_≡_, refl, sym, _∙_}
 use mathlib.Core.Logic.{_≢_}

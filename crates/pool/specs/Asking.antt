@@ -61,10 +61,13 @@ abbrev pub listedBy : ℕ → Bool → ℕ → Answer
 listedBy n more v = record { outcome = Listed n more; visits = v }
 
 -- the first matches in walk order, as many as there is room for, and whether there are more
-unfoldable pub listingLeft : List ℕ → Limits → List ℕ → Left
-listingLeft c q out =
+abbrev pub listedOf : List ℕ → Limits → List ℕ → Left
+listedOf c q out =
     let ps : List Pair = take (roomOf out) (matchesOf c q) in
-    leftBy (lengthLine c ∷ soundLine c ∷ backwardsLine (q .x0) (q .x1) ∷ []) out (record {
+    record {
       cells = written ps out;
       answer = listedBy (length ps) (ltb (roomOf out) (length (matchesOf c q))) (listing q rootStripe (treeOf c) (roomOf out) .visits);
-    })
+    }
+
+unfoldable pub listingLeft : List ℕ → Limits → List ℕ → Left
+listingLeft c q out = leftBy (lengthLine c ∷ soundLine c ∷ backwardsLine (q .x0) (q .x1) ∷ []) out (listedOf c q out)

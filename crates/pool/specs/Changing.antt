@@ -1,6 +1,6 @@
 -- What insert and delete answer, and what each cell then holds, for every pool and all numbers.
 use Prim.Native.Nat.{ℕ}
-use mathlib.Core.Bool.{not}
+use mathlib.Core.Bool.{not, _&&_}
 use mathlib.Core.List.{List, [], _∷_}
 use lib.Dec.{eqb}
 use Rattle.rule.specs.declared.Pair.{Pair}
@@ -26,7 +26,7 @@ missingLine c p = record { code = codes.missing; when = not (hasX (p .x) (stored
 
 -- x is stored with another y
 abbrev pub otherLine : List ℕ → Pair → Line
-otherLine c p = record { code = codes.other; when = not (has p (stored c)) }
+otherLine c p = record { code = codes.other; when = hasX (p .x) (stored c) && not (has p (stored c)) }
 
 unfoldable pub insertion : List ℕ → Pair → Left
 insertion c p =

@@ -6,8 +6,8 @@ use rule::Walked;
 use rule::codes;
 use sound::Health;
 ghost use mathlib.Core.Path.{_≡_};
+ghost use Rattle.rule.specs.Plain.{limits};
 ghost use Rattle.rule.specs.Sound.{Sound};
-ghost use Rattle.questions.specs.Walking.{limits};
 ghost use Rattle.pool.specs.Asking.{answered, smallestXAnswer, largestXAnswer, smallestYAnswer};
 
 // A walk's finding as an answer.

@@ -5,9 +5,9 @@ use rule::Outcome;
 use rule::codes;
 use sound::Health;
 ghost use mathlib.Core.Path.{_≡_};
+ghost use Rattle.rule.specs.Plain.{limits};
 ghost use Rattle.rule.specs.Refusals.{Leaves};
 ghost use Rattle.rule.specs.Sound.{Sound};
-ghost use Rattle.questions.specs.Walking.{limits};
 ghost use Rattle.pool.specs.Asking.{listingLeft, listedBy};
 
 // What a listing says of itself as an answer.

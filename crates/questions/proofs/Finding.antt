@@ -1,4 +1,4 @@
--- What a slot's number stands for, and the closer of two. Assumes nothing.
+-- What a slot's number stands for, and the closer of two.
 use Prim.Native.Nat.{ℕ, _+_, _*_, _≤_, _<_}
 use mathlib.Core.Path.{_≡_, refl, sym, ap, _∙_}
 use mathlib.Core.Bool.{Bool, true, false, cond, not, _&&_}

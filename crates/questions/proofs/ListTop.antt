@@ -1,4 +1,4 @@
--- A listing from the root of a sound pool, into the whole of a lent slice. Assumes nothing.
+-- A listing from the root of a sound pool, into the whole of a lent slice.
 use Prim.Native.Nat.{ℕ, _-_, _≤_, _<_}
 use mathlib.Core.Path.{_≡_, refl, sym, _∙_}
 use mathlib.Core.Bool.{true, false}
@@ -7,12 +7,13 @@ use native.Mathlib.Omega.{arith}
 use lib.ListN.{length}
 use Rattle.rule.specs.declared.Limits.{Limits}
 use Rattle.rule.specs.Cells.{rootOf, treeAt}
+use Rattle.rule.specs.Plain.{limits}
 use Rattle.rule.specs.Sound.{Sound, allLevels}
 use Rattle.rule.specs.Stripe.{Stripe, rootStripe}
 use Rattle.rule.specs.Walks.{Listed, listing, roomOf}
 use Rattle.rule.proofs.Sizes.{listing-size}
 use Rattle.questions.specs.declared.list_walk.Listing.{Listing}
-use Rattle.questions.specs.Walking.{limits, Asked}
+use Rattle.questions.specs.Walking.{Asked}
 use Rattle.questions.specs.Listing.{Lists, Lent}
 use Rattle.questions.proofs.Top.{root-asked}
 use Rattle.questions.proofs.Filling.{Fills, fills, put-written, stopped, goes-on, next-place}

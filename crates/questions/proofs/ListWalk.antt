@@ -1,4 +1,4 @@
--- The listing, one step at a time, as the code takes it. Assumes nothing.
+-- The listing, one step at a time, as the code takes it.
 use Prim.Native.Nat.{ℕ, suc, _+_, _-_, _≤_, _<_}
 use mathlib.Core.Path.{_≡_, refl, sym, _∙_}
 use mathlib.Core.Bool.{Bool, true, false, cond, not}
@@ -10,14 +10,13 @@ use borrow.Author.Tests.{lt-ltb, le-ltb, le-leb, lt-leb}
 use Rattle.rule.specs.declared.Limits.{Limits}
 use Rattle.rule.specs.declared.Pair.{Pair}
 use Rattle.rule.specs.Cells.{pairAt, leftAt, rightAt, treeAt}
-use Rattle.rule.specs.Plain.{inRange, matches}
+use Rattle.rule.specs.Plain.{limits, inRange, matches}
 use Rattle.rule.specs.Stripe.{Stripe, middle, leftPart, rightPart}
 use Rattle.rule.specs.Tree.{size}
 use Rattle.rule.specs.Walks.{Listed, listed, andThen, listOwn, listing, roomOf}
 use Rattle.rule.proofs.Tests.{on, and-false}
 use Rattle.rule.proofs.Leads.{back, tree-none, tree-fork}
 use Rattle.rule.proofs.Sizes.{listing-size}
-use Rattle.questions.specs.Walking.{limits}
 use Rattle.questions.specs.Listing.{putOne, putAll, Put, Lists}
 use Rattle.questions.proofs.Finding.{not-lt}
 use Rattle.questions.proofs.Filling.{Fills, fills, fills-own, fills-ask, own-visits, same-room, still-fits, stopped, goes-on, left-over, lists-stopped, lists-then, lists-nothing}

@@ -1,4 +1,4 @@
--- What a walk relies on at a slot's sons, in whichever order they are asked. Assumes nothing.
+-- What a walk relies on at a slot's sons, in whichever order they are asked.
 use Prim.Native.Nat.{ℕ, suc, _+_, _-_, _≤_, _<_}
 use mathlib.Core.Path.{_≡_, refl, sym, _∙_}
 use mathlib.Core.Bool.{Bool, true, false}

@@ -1,4 +1,4 @@
--- Smallest x at a slot: left first, and right where left gave nothing. Assumes nothing.
+-- Smallest x at a slot: left first, and right where left gave nothing.
 use Prim.Native.Nat.{ℕ, suc, _+_, _≤_, _<_}
 use mathlib.Core.Path.{_≡_, refl}
 use mathlib.Core.Bool.{Bool, not}
@@ -10,13 +10,13 @@ use Rattle.rule.specs.declared.Limits.{Limits}
 use Rattle.rule.specs.declared.Pair.{Pair}
 use Rattle.rule.specs.declared.Walked.{Walked}
 use Rattle.rule.specs.Cells.{pairAt, leftAt, rightAt, treeAt}
-use Rattle.rule.specs.Plain.{smaller}
+use Rattle.rule.specs.Plain.{limits, smaller}
 use Rattle.rule.specs.Stripe.{Stripe, middle, leftPart, rightPart}
 use Rattle.rule.specs.Tree.{none, size}
 use Rattle.rule.specs.Walks.{seen, ask, byX, smallestX}
 use Rattle.rule.proofs.Leads.{tree-fork}
 use Rattle.rule.proofs.Sizes.{smallestX-size}
-use Rattle.questions.specs.Walking.{limits, Made, Nearer}
+use Rattle.questions.specs.Walking.{Made, Nearer}
 use Rattle.questions.proofs.Finding.{not-lt}
 use Rattle.questions.proofs.XWalks.{ask-size, stop, first-found, second-asked}
 

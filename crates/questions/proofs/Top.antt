@@ -1,4 +1,4 @@
--- A walk's start at the root of a sound pool, and its end. Assumes nothing.
+-- A walk's start at the root of a sound pool, and its end.
 use Prim.Native.Nat.{ℕ, _≤_}
 use mathlib.Core.Path.{_≡_, sym, _∙_}
 use mathlib.Core.List.{List}

@@ -1,4 +1,4 @@
--- What both x walks share, one step at a time, as the code takes it: the rule at a slot over any two answers of its sons, and a son's place. Assumes nothing.
+-- What both x walks share, one step at a time, as the code takes it: the rule at a slot over any two answers of its sons, and a son's place.
 use Prim.Native.Nat.{ℕ, suc, _+_, _-_, _≤_, _<_}
 use mathlib.Core.Path.{_≡_, refl, sym, _∙_}
 use mathlib.Core.Bool.{Bool, true, false}
@@ -9,12 +9,12 @@ use Rattle.rule.specs.declared.Finding.the-variants.{Found, Nothing}
 use Rattle.rule.specs.declared.Pair.{Pair}
 use Rattle.rule.specs.declared.Walked.{Walked}
 use Rattle.rule.specs.Cells.{pairAt, treeAt}
-use Rattle.rule.specs.Plain.{inRange, matches, own, closest}
+use Rattle.rule.specs.Plain.{limits, inRange, matches, own, closest}
 use Rattle.rule.specs.Tree.{Tree, none}
 use Rattle.rule.specs.Walks.{seen, ask, byX}
 use Rattle.rule.proofs.Tests.{on}
 use Rattle.rule.proofs.Leads.{back, tree-none}
-use Rattle.questions.specs.Walking.{foundAt, limits, Made, Nearer}
+use Rattle.questions.specs.Walking.{foundAt, Made, Nearer}
 use Rattle.questions.proofs.Finding.{no-slot, found-none, found-some}
 
 -- a son that is asked visits no more slots than it has

@@ -1,4 +1,4 @@
--- The walk for the smallest y, one step at a time, as the code takes it. Assumes nothing.
+-- The walk for the smallest y, one step at a time, as the code takes it.
 use Prim.Native.Nat.{ℕ, suc, _+_, _-_, _≤_, _<_}
 use mathlib.Core.Path.{_≡_, refl, sym, _∙_}
 use mathlib.Core.Bool.{Bool, true, false, not}

@@ -20,9 +20,6 @@ use Rattle.rule.specs.Walks.{seen}
 unfoldable pub foundAt : List ℕ → ℕ → Finding
 foundAt c s = cond (eqb s 0) Nothing (Found (pairAt c s))
 
-abbrev pub limits : ℕ → ℕ → ℕ → Limits
-limits x0 x1 y1 = record { x0 = x0; x1 = x1; y1 = y1 }
-
 -- a slot's number, or 0
 abbrev pub Some : List ℕ → ℕ → Type 0
 Some c s = (s ≡ 0 → ⊥) → Fits c s

@@ -6,12 +6,12 @@ ghost use mathlib.Core.Bool.{false, cond};
 ghost use mathlib.Core.List.{[]};
 ghost use Prim.Native.Nat.{suc, _-_, _≤_};
 ghost use Rattle.rule.specs.Cells.{rootOf, treeAt};
-ghost use Rattle.rule.specs.Plain.{inRange};
+ghost use Rattle.rule.specs.Plain.{limits, inRange};
 ghost use Rattle.rule.specs.Shape.{stripeOf};
 ghost use Rattle.rule.specs.Sound.{Sound, allLevels};
 ghost use Rattle.rule.specs.Stripe.{rootStripe};
 ghost use Rattle.rule.specs.Walks.{listed, listOwn, listing, roomOf};
-ghost use Rattle.questions.specs.Walking.{limits, Asked};
+ghost use Rattle.questions.specs.Walking.{Asked};
 ghost use Rattle.questions.specs.Listing.{Put, Lists, Lent};
 
 // The cells of a listed pair: x, y.

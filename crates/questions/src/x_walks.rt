@@ -6,12 +6,12 @@ use rule::Walked;
 ghost use mathlib.Core.Path.{_≡_};
 ghost use Prim.Native.Nat.{suc, _+_, _≤_};
 ghost use Rattle.rule.specs.Cells.{Fits, rootOf, treeAt};
-ghost use Rattle.rule.specs.Plain.{smaller, larger};
+ghost use Rattle.rule.specs.Plain.{limits, smaller, larger};
 ghost use Rattle.rule.specs.Shape.{stripeOf};
 ghost use Rattle.rule.specs.Sound.{Sound, allLevels};
 ghost use Rattle.rule.specs.Stripe.{rootStripe};
 ghost use Rattle.rule.specs.Walks.{smallestX, largestX, ask};
-ghost use Rattle.questions.specs.Walking.{limits, Some, Asked, Made, Nearer};
+ghost use Rattle.questions.specs.Walking.{Some, Asked, Made, Nearer};
 
 // The slot's own pair, if it is in range and smaller than what was found below it.
 fn smaller_of(pool: &[u32], slot: u32, x0: u32, x1: u32, below: u32) -> u32

@@ -1,4 +1,4 @@
--- Pools that agree on every slot, the header being slot 0, are equal, and a link leads to the same tree where they agree on its slots. Assumes nothing.
+-- Pools that agree on every slot, the header being slot 0, are equal, and a link leads to the same tree where they agree on its slots.
 use Prim.Native.Nat.{ℕ, zero, suc, _+_, _*_, _-_, _/_, _≤_, _<_}
 use mathlib.Core.Path.{_≡_, refl, sym, ap, _∙_, subst}
 use mathlib.Core.Logic.{_≢_, ⊎-elim}

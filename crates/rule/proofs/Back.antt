@@ -1,4 +1,4 @@
--- Taking back, slots included: what was put in is taken out, what was taken out is put in. Assumes nothing.
+-- Taking back, slots included: what was put in is taken out, what was taken out is put in.
 use Prim.Native.Nat.{ℕ}
 use mathlib.Core.Path.{_≡_, refl}
 use Rattle.rule.specs.declared.Pair.{Pair}

@@ -1,4 +1,4 @@
--- Over a tree, a scan's finding is the closest of each slot's pair and its sons' best. Assumes nothing.
+-- Over a tree, a scan's finding is the closest of each slot's pair and its sons' best.
 use mathlib.Core.Path.{_≡_, refl, sym, ap, _∙_}
 use mathlib.Core.Logic.{_≢_, _⊎_, inl, inr}
 use mathlib.Core.Bool.{Bool, true, false, not}

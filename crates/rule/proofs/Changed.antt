@@ -1,4 +1,4 @@
--- A change writes the header and the slots of one tree: when the pool is sound afterwards, and when a second change takes the first back. Assumes nothing.
+-- A change writes the header and the slots of one tree: when the pool is sound afterwards, and when a second change takes the first back.
 use Prim.Native.Nat.{ℕ, _+_}
 use mathlib.Core.Path.{_≡_, refl, sym, ap, _∙_}
 use mathlib.Core.Logic.{⊎-elim}

@@ -1,4 +1,4 @@
--- A tree is well formed exactly where the clauses of a sound pool hold of it (that its x differ is in Members, its levels in Levels). Assumes nothing.
+-- A tree is well formed exactly where the clauses of a sound pool hold of it (that its x differ is in Members, its levels in Levels).
 use Prim.Native.Nat.{ℕ}
 use mathlib.Core.List.{List, [], _∷_, _++_, map}
 use Rattle.rule.specs.declared.Pair.{Pair}

@@ -1,4 +1,4 @@
--- How many of a list's pairs match does not depend on its order, where the x differ. Assumes nothing.
+-- How many of a list's pairs match does not depend on its order, where the x differ.
 use Prim.Native.Nat.{ℕ, suc}
 use mathlib.Core.Path.{_≡_, refl, sym, ap, _∙_}
 use mathlib.Core.Logic.{_≢_, ⊎-elim}

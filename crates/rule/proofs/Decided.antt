@@ -1,4 +1,4 @@
--- The test of a pool is true exactly where the pool is sound. Assumes nothing.
+-- The test of a pool is true exactly where the pool is sound.
 use Prim.Native.Nat.{ℕ, zero, suc, _+_, _*_, _-_, _/_, _≤_, _<_}
 use mathlib.Core.Path.{_≡_, refl, sym, ap, _∙_}
 use mathlib.Core.Logic.{_⊎_, inl, inr, ⊎-elim, _↔_}

@@ -1,4 +1,4 @@
--- Each walk finds what a scan of the tree's members finds. Assumes nothing.
+-- Each walk finds what a scan of the tree's members finds.
 -- The slot's rule gives the closest of its pair and its sons' best, whatever the sons answer; each walk's induction only plugs in.
 use Prim.Native.Nat.{ℕ, _<_}
 use mathlib.Core.Path.{_≡_, refl, sym, ap, _∙_}

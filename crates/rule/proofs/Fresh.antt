@@ -1,4 +1,4 @@
--- A fresh pool is sound and stores nothing. Each law goes along the slots, with the cells before a slot split off. Assumes nothing.
+-- A fresh pool is sound and stores nothing. Each law goes along the slots, with the cells before a slot split off.
 use Prim.Native.Nat.{ℕ, zero, suc, _+_, _*_, _-_, _/_, _≤_, _<_}
 use mathlib.Core.Path.{_≡_, refl, sym, ap, _∙_}
 use mathlib.Core.Bool.{true}

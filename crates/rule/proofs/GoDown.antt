@@ -1,4 +1,4 @@
--- A pair that goes down: the tree stays well formed and has one member more. Assumes nothing.
+-- A pair that goes down: the tree stays well formed and has one member more.
 -- `Down` is the graph of `goDown`; every law is an induction over it, with no test in it.
 use Prim.Native.Nat.{ℕ, _≤_, _<_}
 use mathlib.Core.Path.{_≡_, refl, sym, ap, subst}

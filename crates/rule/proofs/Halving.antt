@@ -1,4 +1,4 @@
--- In a well-formed tree x is met by halving exactly where it is a member's. Assumes nothing.
+-- In a well-formed tree x is met by halving exactly where it is a member's.
 use Prim.Native.Nat.{ℕ}
 use mathlib.Core.Path.{_≡_, refl, sym, _∙_}
 use mathlib.Core.Logic.{_≢_}

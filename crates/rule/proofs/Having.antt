@@ -1,4 +1,4 @@
--- The tests on a plain list, and membership. Assumes nothing.
+-- The tests on a plain list, and membership.
 use Prim.Native.Nat.{ℕ}
 use mathlib.Core.Path.{_≡_, refl, sym, ap, _∙_}
 use mathlib.Core.Logic.{_⊎_, inl, inr, ⊎-elim}

@@ -1,4 +1,4 @@
--- The cells after an insertion: a sound pool whose tree is the one that the pair went down into. Assumes nothing.
+-- The cells after an insertion: a sound pool whose tree is the one that the pair went down into.
 use Prim.Native.Nat.{ℕ, _+_, _<_}
 use mathlib.Core.Path.{_≡_, refl, ap}
 use mathlib.Core.Logic.{_≢_, _↔_, _⊎_, inl, inr, ⊎-elim}

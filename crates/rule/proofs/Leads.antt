@@ -1,4 +1,4 @@
--- The tree that a link leads to is the one that is read from the cells, and no other. Assumes nothing.
+-- The tree that a link leads to is the one that is read from the cells, and no other.
 use Prim.Native.Nat.{ℕ, zero, suc, _+_, _*_, _-_, _^_, _≤_, _<_}
 use mathlib.Core.Path.{_≡_, refl, sym, ap, _∙_}
 use mathlib.Core.Bool.{Bool, true, false, cond}

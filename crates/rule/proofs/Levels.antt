@@ -1,4 +1,4 @@
--- A stripe at most 2 ^ k wide has at most k + 1 levels of slots: a son's stripe is half as wide, and one x has one slot. Assumes nothing.
+-- A stripe at most 2 ^ k wide has at most k + 1 levels of slots: a son's stripe is half as wide, and one x has one slot.
 use Prim.Native.Nat.{ℕ, zero, suc, _+_, _^_, _≤_}
 use native.Mathlib.Omega.{arith}
 use native.Mathlib.Nat.{two-pow-succ}

@@ -28,6 +28,7 @@ pub mod Deleted
 pub mod TakenBack
 pub mod Promised
 pub mod Tables
+pub mod Numbers
 pub mod Best
 pub mod Scan
 pub mod Outside

@@ -1,4 +1,4 @@
--- At the root a listing makes at most 127 visits, and two more for each pair listed. Assumes nothing.
+-- At the root a listing makes at most 127 visits, and two more for each pair listed.
 -- A slot whose x is in range either stops the walk or matches, and a match pays for both sons.
 use Prim.Native.Nat.{ℕ, zero, suc, _+_, _*_, _≤_}
 use mathlib.Core.Path.{_≡_, refl}

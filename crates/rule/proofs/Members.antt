@@ -1,4 +1,4 @@
--- A tree's members as a list: they are the same, and in a well-formed tree their x differ. Assumes nothing.
+-- A tree's members as a list: they are the same, and in a well-formed tree their x differ.
 use Prim.Native.Nat.{ℕ}
 use mathlib.Core.Path.{_≡_, refl, sym, ap, _∙_}
 use mathlib.Core.Logic.{_≢_, _↔_, ⊎-elim}

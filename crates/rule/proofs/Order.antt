@@ -1,4 +1,4 @@
--- Beating is an order that decides between any two pairs with different x. Assumes nothing.
+-- Beating is an order that decides between any two pairs with different x.
 use Prim.Native.Nat.{ℕ, _≤_}
 use mathlib.Core.Path.{_≡_, refl, sym, _∙_}
 use mathlib.Core.Logic.{_≢_, _⊎_, inl, inr, ⊎-elim}

@@ -1,4 +1,4 @@
--- What a walk leaves out holds no match: the side of the middle that is beyond the range, and all below a pair with y > y1. Assumes nothing.
+-- What a walk leaves out holds no match: the side of the middle that is beyond the range, and all below a pair with y > y1.
 use Prim.Native.Nat.{ℕ, _≤_, _<_}
 use mathlib.Core.Path.{_≡_}
 use mathlib.Core.Bool.{true, false}

@@ -1,4 +1,4 @@
--- Different numbers from 1 to n: they are n at most, and where they are n every one is there. Assumes nothing.
+-- Different numbers from 1 to n: they are n at most, and where they are n every one is there.
 use Prim.Native.Nat.{ℕ, zero, suc, _+_, _≤_}
 use mathlib.Core.Path.{_≡_, refl, sym, _∙_}
 use mathlib.Core.Logic.{_≢_, _⊎_, inl, inr, ⊎-elim}

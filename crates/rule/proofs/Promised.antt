@@ -1,4 +1,4 @@
--- A promise allows one result alone. A call whose result, and whose cells, equal a definition's at what was passed in has this by these laws. Assumes nothing.
+-- A promise allows one result alone. A call whose result, and whose cells, equal a definition's at what was passed in has this by these laws.
 use Prim.Native.Nat.{ℕ}
 use mathlib.Core.Path.{_≡_, sym, _∙_}
 use mathlib.Core.List.{List}

@@ -1,4 +1,4 @@
--- Two well-formed trees of one stripe with equal members are equal but for their slots' numbers. Assumes nothing.
+-- Two well-formed trees of one stripe with equal members are equal but for their slots' numbers.
 use Prim.Native.Nat.{ℕ, _≤_, _<_}
 use mathlib.Core.Path.{_≡_, refl, sym, ap, _∙_}
 use mathlib.Core.Logic.{_≢_, _↔_, _⊎_, inl, inr}

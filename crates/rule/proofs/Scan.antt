@@ -1,4 +1,4 @@
--- What a scan finds does not depend on the list's order: where the x differ, it is the match that no other is closer than. Assumes nothing.
+-- What a scan finds does not depend on the list's order: where the x differ, it is the match that no other is closer than.
 use Prim.Native.Nat.{ℕ}
 use mathlib.Core.Path.{_≡_, refl, sym, ap, _∙_, subst}
 use mathlib.Core.Logic.{_↔_}

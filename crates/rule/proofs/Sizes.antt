@@ -1,4 +1,4 @@
--- A walk makes no more visits than the tree has slots, and at least one where it has a slot. Assumes nothing.
+-- A walk makes no more visits than the tree has slots, and at least one where it has a slot.
 use Prim.Native.Nat.{ℕ, zero, suc, _+_, _≤_}
 use mathlib.Core.Path.{_≡_, refl}
 use mathlib.Core.Bool.{Bool, true, false, cond}

@@ -1,4 +1,4 @@
--- The slots of a sound pool: those of the tree and of the free chain all differ, and together they are all there are. Assumes nothing.
+-- The slots of a sound pool: those of the tree and of the free chain all differ, and together they are all there are.
 use Prim.Native.Nat.{ℕ, _≤_}
 use mathlib.Core.Path.{_≡_, refl, sym, ap, _∙_, subst}
 use mathlib.Core.Logic.{_⊎_, inl, inr, ⊎-elim}

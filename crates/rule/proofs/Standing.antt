@@ -1,4 +1,4 @@
--- Which slots a tree has: a pair that goes down adds the one given, and no slot then stands twice. Assumes nothing.
+-- Which slots a tree has: a pair that goes down adds the one given, and no slot then stands twice.
 use Prim.Native.Nat.{ℕ, _+_}
 use mathlib.Core.Path.{_≡_, refl, sym, subst}
 use mathlib.Core.Logic.{_≢_, _⊎_, inl, inr, ⊎-elim}

@@ -1,4 +1,4 @@
--- A sound pool stores the pairs of its tree, each once. Assumes nothing.
+-- A sound pool stores the pairs of its tree, each once.
 use Prim.Native.Nat.{ℕ, zero, suc, _+_, _≤_, _<_}
 use mathlib.Core.Path.{_≡_, refl, sym, ap, _∙_, subst}
 use mathlib.Core.Logic.{_≢_, _↔_, ⊎-elim}

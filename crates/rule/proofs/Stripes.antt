@@ -1,4 +1,4 @@
--- The parts of a stripe whose ends can be added are such stripes. Assumes nothing.
+-- The parts of a stripe whose ends can be added are such stripes.
 use Prim.Native.Nat.{ℕ}
 use mathlib.Core.Path.{_≡_, refl}
 use native.Mathlib.Omega.{arith}

@@ -1,4 +1,4 @@
--- A table of refusals, a line at a time. Assumes nothing.
+-- A table of refusals, a line at a time.
 use Prim.Native.Nat.{ℕ}
 use mathlib.Core.Path.{_≡_, refl}
 use mathlib.Core.Bool.{Bool, true, false}

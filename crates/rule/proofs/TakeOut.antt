@@ -1,4 +1,4 @@
--- A hole that is filled: the tree stays well formed and has one member less. Assumes nothing.
+-- A hole that is filled: the tree stays well formed and has one member less.
 -- `Filled` and `Taken` are the graphs of `fill` and `takeOut`; every law is an induction over them.
 use Prim.Native.Nat.{ℕ, _≤_, _<_}
 use mathlib.Core.Path.{_≡_, refl, sym, ap, subst}

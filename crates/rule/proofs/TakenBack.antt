@@ -1,4 +1,4 @@
--- Taking back restores every cell: a deletion takes an insertion back, an insertion a deletion. Assumes nothing.
+-- Taking back restores every cell: a deletion takes an insertion back, an insertion a deletion.
 use Prim.Native.Nat.{ℕ, _<_}
 use mathlib.Core.Path.{_≡_, refl, ap}
 use mathlib.Core.Logic.{_≢_, inl, ⊎-elim}

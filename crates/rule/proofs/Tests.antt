@@ -1,4 +1,4 @@
--- Computed tests, taken apart. Assumes nothing.
+-- Computed tests, taken apart.
 use mathlib.Core.Path.{_≡_, refl, sym, _∙_}
 use mathlib.Core.Logic.{_⊎_, inl, inr}
 use mathlib.Core.Bool.{Bool, true, false, true≢false, _&&_, _||_}

@@ -1,4 +1,4 @@
--- The pairs of a list for which a test holds: which they are, and that each stands there once. Assumes nothing.
+-- The pairs of a list for which a test holds: which they are, and that each stands there once.
 use Prim.Native.Nat.{ℕ}
 use mathlib.Core.Path.{_≡_, refl, sym, ap, _∙_}
 use mathlib.Core.Logic.{_↔_, ⊎-elim}

@@ -1,4 +1,4 @@
--- At the root no search makes more than 127 visits. Shown once for all 32 levels. Assumes nothing.
+-- At the root no search makes more than 127 visits. Shown once for all 32 levels.
 use Prim.Native.Nat.{ℕ, zero, suc, _+_, _≤_}
 use mathlib.Core.Path.{_≡_, refl}
 use mathlib.Core.Bool.{Bool, true, false}

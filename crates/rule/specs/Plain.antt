@@ -13,6 +13,10 @@ use Rattle.rule.specs.Pairs.{beats}
 abbrev pub inRange : ℕ → ℕ → Pair → Bool
 inRange x0 x1 p = leb x0 (p .x) && leb (p .x) x1
 
+-- the limits of a question, inclusive
+abbrev pub limits : (x0 x1 y1 : ℕ) → Limits
+limits x0 x1 y1 = record { x0 = x0; x1 = x1; y1 = y1 }
+
 -- x0 ≤ x ≤ x1 and y ≤ y1
 abbrev pub matches : Limits → Pair → Bool
 matches q p = inRange (q .x0) (q .x1) p && leb (p .y) (q .y1)

@@ -1,4 +1,4 @@
--- The tree part of the check, one step at a time, as the code takes it. Assumes nothing.
+-- The tree part of the check, one step at a time, as the code takes it.
 use Prim.Native.Nat.{ℕ, zero, suc, _+_, _*_, _-_, _/_, _^_, _≤_, _<_}
 use mathlib.Core.Path.{_≡_, refl, sym, ap, _∙_}
 use mathlib.Core.Bool.{Bool, true, false, cond, not, _&&_}

@@ -1,4 +1,4 @@
--- What each verdict on a pool says of the two tests. Assumes nothing.
+-- What each verdict on a pool says of the two tests.
 use Prim.Native.Nat.{ℕ}
 use mathlib.Core.Path.{_≡_, refl, sym, _∙_}
 use mathlib.Core.Bool.{Bool, true, false, cond}

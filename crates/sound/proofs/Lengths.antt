@@ -1,4 +1,4 @@
--- The code's three tests of the length are the definition's. Assumes nothing.
+-- The code's three tests of the length are the definition's.
 use Prim.Native.Nat.{ℕ, _+_, _*_, _-_, _/_, _%_, _≤_, _<_}
 use mathlib.Core.Path.{_≡_, sym, _∙_}
 use mathlib.Core.Bool.{Bool, true, false}

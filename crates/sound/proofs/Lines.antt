@@ -1,4 +1,4 @@
--- The first two lines of every call's table, by the verdict on its pool. Assumes nothing.
+-- The first two lines of every call's table, by the verdict on its pool.
 use Prim.Native.Nat.{ℕ}
 use mathlib.Core.Path.{_≡_, refl, sym, _∙_}
 use mathlib.Core.Bool.{Bool, true, false}

@@ -1,4 +1,4 @@
--- What set up and check mean: check gives 0, 1 or 2 exactly; set up leaves a sound pool with nothing stored, or every cell as it stood. Assumes nothing.
+-- What set up and check mean: check gives 0, 1 or 2 exactly; set up leaves a sound pool with nothing stored, or every cell as it stood.
 use Prim.Native.Nat.{ℕ}
 use mathlib.Core.Path.{_≡_, sym, ap, _∙_}
 use mathlib.Core.Logic.{_↔_}
@@ -14,7 +14,7 @@ use Rattle.rule.specs.Test.{isPool, isSound}
 use Rattle.rule.proofs.Tests.{on, clash}
 use Rattle.rule.proofs.Decided.{pool-true, true-pool, test-sound, sound-test}
 use Rattle.rule.proofs.Fresh.{fresh-sound, fresh-stored}
-use Rattle.sound.specs.Promises.{setUp, checked}
+use Rattle.sound.specs.Promises.{lengthLine, soundLine, setUp, checked}
 
 -- answers with different codes differ
 codes-apart : (k j : ℕ) → refused k ≡ refused j → k ≡ j
@@ -43,6 +43,20 @@ module _ (c : List ℕ) where
 
   no-sound : isSound c ≡ false → Sound c → ⊥
   no-sound e s = clash (sound-test c s) e
+
+  -- law: the line for 1 holds exactly where the length is no pool's
+  pub length-line : (lengthLine c .when ≡ true) ↔ (Pool c → ⊥)
+  length-line = (
+    λ h p. clash h (rw (true-pool c p)),
+    λ n. on (isPool c) (λ e. absurd (n (pool-true c e))) (λ e. rw e),
+  )
+
+  -- law: the line for 2 holds exactly where the pool is not sound
+  pub sound-line : (soundLine c .when ≡ true) ↔ (Sound c → ⊥)
+  sound-line = (
+    λ h s. clash h (rw (sound-test c s)),
+    λ n. on (isSound c) (λ e. absurd (n (test-sound c e))) (λ e. rw e),
+  )
 
   -- law: the check says 0 exactly where the pool is sound
   pub check-sound : (checked c ≡ finished) ↔ Sound c

@@ -1,4 +1,4 @@
--- What stands at a son's place, a test at a time. Assumes nothing.
+-- What stands at a son's place, a test at a time.
 use Prim.Native.Nat.{ℕ, zero, suc, _+_, _*_, _-_, _/_, _≤_, _<_}
 use mathlib.Core.Path.{_≡_, refl, sym, _∙_}
 use mathlib.Core.Bool.{Bool, true, false, _&&_}

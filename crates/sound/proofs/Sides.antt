@@ -1,4 +1,4 @@
--- Which side of a slot is searched for its x. Assumes nothing.
+-- Which side of a slot is searched for its x.
 use Prim.Native.Nat.{ℕ}
 use mathlib.Core.Path.{_≡_}
 use mathlib.Core.Bool.{Bool, true, false, not}

@@ -1,4 +1,4 @@
--- The parts of the check put together. Assumes nothing.
+-- The parts of the check put together.
 use Prim.Native.Nat.{ℕ, zero, suc, _+_, _≤_}
 use mathlib.Core.Path.{_≡_, refl, sym, ap, _∙_}
 use mathlib.Core.Bool.{Bool, true, false, cond, not, _&&_}

@@ -1,4 +1,4 @@
--- The limits of 01's table say what they are to say of every stored pair. Assumes nothing.
+-- The limits of 01's table say what they are to say of every stored pair.
 use Prim.Native.Nat.{ℕ, _+_, _*_, _/_, _%_, _≤_, _<_}
 use mathlib.Core.Path.{_≡_}
 use mathlib.Core.Logic.{_↔_}

@@ -1,9 +1,9 @@
--- What the strip questions answer, in a rider's words. Assumes nothing.
+-- What the strip questions answer, in a rider's words.
 use Prim.Native.Nat.{ℕ, _+_, _*_, _/_, _%_, _≤_, _<_}
 use mathlib.Core.Path.{_≡_, refl, sym, ap, _∙_}
 use mathlib.Core.Logic.{_↔_, _⊎_}
 use mathlib.Core.Bool.{Bool, true, false, _||_}
-use mathlib.Core.List.{List, map, List·Memᴰ}
+use mathlib.Core.List.{List, List·Memᴰ}
 use native.Mathlib.Omega.{arith}
 use lib.Dec.{ltb}
 use borrow.Author.Tests.{ltb-true, ltb-false, le-ltb}
@@ -15,26 +15,22 @@ use Rattle.rule.specs.declared.Pair.{Pair}
 use Rattle.rule.specs.Cells.{stored}
 use Rattle.rule.specs.Pairs.{beats, Beats, lower, level}
 use Rattle.rule.specs.Plain.{inRange, matches, smallestXOf, largestXOf, smallestYOf}
-use Rattle.rule.specs.Refusals.{answerBy}
-use Rattle.rule.specs.Sound.{Sound, itself}
-use Rattle.rule.specs.Tree.{members, Apart}
-use Rattle.rule.proofs.Tests.{on, clash}
+use Rattle.rule.specs.Refusals.{answerBy, Left}
+use Rattle.rule.specs.Sound.{Sound}
+use Rattle.rule.proofs.Tests.{on, clash, neither}
 use Rattle.rule.proofs.Decided.{true-pool, sound-test}
 use Rattle.rule.proofs.Order.{true-beats, beats-true}
 use Rattle.rule.proofs.Scan.{Closest, NoMatch, smallestXOf-found, smallestXOf-nothing, largestXOf-found, largestXOf-nothing, smallestYOf-found, smallestYOf-nothing}
 use Rattle.rule.proofs.Stored.{stored-mem, stored-apart}
 use Rattle.rule.proofs.TakenBack.{member-low}
-use Rattle.rule.proofs.Those.{those-mem, those-apart}
-use Rattle.pool.specs.Asking.{outcomeOf, treeOf, matchesOf}
-use Rattle.pool.proofs.Questions.{members-stored, members-apart}
+use Rattle.pool.specs.Asking.{outcomeOf, listingLeft}
+use Rattle.pool.specs.Showing.{Shows}
+use Rattle.pool.proofs.Questions.{listing-shows}
 use Rattle.strips.specs.Strips.{startOf, endOf, numberOf, Covers, Meets, Contains, over, coversLimits, lastLimits, meetsLimits, containsLimits}
-use Rattle.strips.specs.Promises.{firstToEnd, lastToEnd, earliestStart}
+use Rattle.strips.specs.Promises.{firstToEnd, lastToEnd, earliestStart, listCovers, listMeets, listContains}
+use Rattle.strips.specs.Riding.{Ahead, Behind, Unbeaten, CoversBy, EndsIn, CoversSome, CoversAll, Drawn, None}
 use Rattle.strips.proofs.Limits.{covers-limits, meets-limits, contains-limits, last-limits, ends-limits}
-
--- p ends before q, or with it and has a number no higher
-pub record Ahead (p q : Pair) : Type 0 where
-  pub end : endOf p ≤ endOf q
-  pub number : endOf p ≡ endOf q → numberOf p ≤ numberOf q
+use Rattle.strips.proofs.Tabled.{covers-is, meets-is, contains-is}
 
 ahead-of : (p q : Pair) → p .x ≤ q .x → Ahead p q
 ahead-of p q h = record { end = omega arith; number = λ e. omega arith }
@@ -51,16 +47,6 @@ outcome-found no-pair p = (λ e. cc, λ e. cc)
 outcome-nothing : (f : Finding) → (outcomeOf f ≡ Nothing) ↔ (f ≡ no-pair)
 outcome-nothing (found-pair q) = (λ e. cc, λ e. cc)
 outcome-nothing no-pair = (λ e. refl, λ e. refl)
-
--- the strip that is drawn: it is stored, it is one of those asked for, and it stands ahead of every other of them
-pub record Drawn (c : List ℕ) (Asked : Pair → Type 0) (Before : Pair → Pair → Type 0) (p : Pair) : Type 0 where
-  pub stored : List·Memᴰ p (stored c)
-  pub asked : Asked p
-  pub ahead : (q : Pair) → List·Memᴰ q (Rattle.rule.specs.Cells.stored c) → Asked q → Before p q
-
--- no stored strip is asked for
-abbrev pub None : List ℕ → (Pair → Type 0) → Type 0
-None c Asked = (q : Pair) → List·Memᴰ q (stored c) → Asked q → ⊥
 
 module _ {c : List ℕ} (s : Sound c) where
   pub small : (p : Pair) → List·Memᴰ p (stored c) → p .x < 4294967296
@@ -113,16 +99,8 @@ module _ {c : List ℕ} (s : Sound c) where
         let d = none-of (Covers u) Ahead (λ p b. covers-limits p b u) by-end in
         rw first-is (λ e. d .0 (g .0 (f .0 e)), λ e. f .1 (g .1 (d .1 e)))
 
-  -- q ends before p, or with it and has a number no higher
-  abbrev pub Behind : Pair → Pair → Type 0
-  Behind p q = Ahead q p
-
   by-last : (p q : Pair) → (ltb (p .x) (q .x) ≡ false) ↔ Behind p q
   by-last p q = by-end q p
-
-  -- covers u and ends no later than e
-  abbrev pub CoversBy : ℕ → ℕ → Pair → Type 0
-  CoversBy u e p = Covers u p × (endOf p ≤ e)
 
   module _ (u e : ℕ) (hu : over u ≡ false) (he : over e ≡ false) (o : ltb e u ≡ false) where
     last-is : lastToEnd c u e .outcome ≡ outcomeOf (largestXOf (lastLimits u e) (stored c))
@@ -144,14 +122,6 @@ module _ {c : List ℕ} (s : Sound c) where
         let d = none-of (CoversBy u e) Behind (λ p b. last-limits p b u e) by-last in
         rw last-is (λ k. d .0 (g .0 (f .0 k)), λ k. f .1 (g .1 (d .1 k)))
 
-  -- ends in u..v
-  abbrev pub EndsIn : ℕ → ℕ → Pair → Type 0
-  EndsIn u v p = (u ≤ endOf p) × (endOf p ≤ v)
-
-  -- q does not beat p: it starts later, or with p and then ends later, or with p and has a number no lower
-  abbrev pub Unbeaten : Pair → Pair → Type 0
-  Unbeaten p q = beats q p ≡ false
-
   module _ (u v : ℕ) (hu : over u ≡ false) (hv : over v ≡ false) (o : ltb v u ≡ false) where
     earliest-is : earliestStart c u v .outcome ≡ outcomeOf (smallestYOf (u * 65536) (v * 65536 + 65535) (stored c))
     unfolding earliestStart answerBy
@@ -172,29 +142,70 @@ module _ {c : List ℕ} (s : Sound c) where
         let d = none-of {closer = beats} (EndsIn u v) Unbeaten (λ p b. ends-limits p b u v) (λ p q. (λ e. e, λ e. e)) in
         rw earliest-is (λ k. d .0 (g .0 (f .0 k)), λ k. f .1 (g .1 (d .1 k)))
 
-  -- law: an earliest start is no later than any other
-  pub unbeaten-start : (p q : Pair) → Unbeaten p q → startOf p ≤ startOf q
-  unbeaten-start p q h = on (ltb (q .y) (p .y))
-      (λ t. absurd (clash (true-beats {p = q} {q = p} (lower (ltb-true _ _ t))) h)) (λ f. ltb-false (q .y) (p .y) f)
+  -- the list of a question shows exactly the stored strips that are asked for, each once
+  shows-of : (q : Limits) (Asked : Pair → Type 0) (w : Left) (out : List ℕ) → ((p : Pair) → p .x < 4294967296 → (matches q p ≡ true) ↔ Asked p)
+      → ltb (q .x1) (q .x0) ≡ false → w ≡ listingLeft c q out → Shows c out Asked w
+  shows-of q Asked w out fits o e =
+      let S = listing-shows s q out o in
+      record {
+        all = S .all;
+        exactly = λ p. (
+          λ m. let k = S .exactly p .0 m in (k .0, fits p (small p (k .0)) .0 (k .1)),
+          λ k. S .exactly p .1 (k .0, fits p (small p (k .0)) .1 (k .1)),
+        );
+        once = S .once;
+        cells = rw e (S .cells);
+        outcome = rw e (S .outcome);
+      }
 
-  -- a list has exactly the stored strips that are asked for, each once
-  module _ (q : Limits) (Asked : Pair → Type 0) (fits : (p : Pair) → p .x < 4294967296 → (matches q p ≡ true) ↔ Asked p) where
-    pub listed-mem : (p : Pair) → List·Memᴰ p (matchesOf c q) ↔ (List·Memᴰ p (stored c) × Asked p)
-    listed-mem p =
-        let t = those-mem (matches q) p (members (treeOf c)) in (
-          λ m. let r = t .0 m in let k = members-stored s p .0 (r .0) in (k, fits p (small p k) .0 (r .1)),
-          λ k. t .1 (members-stored s p .1 (k .0), fits p (small p (k .0)) .1 (k .1)),
-        )
+  -- law: the strips that cover u
+  pub covers-shows : (u : ℕ) (out : List ℕ) → over u ≡ false → Shows c out (Covers u) (listCovers c u out)
+  covers-shows u out h =
+      let b = ltb-false 65535 u h in
+      shows-of (coversLimits u) (Covers u) (listCovers c u out) out (λ p k. covers-limits p k u) (le-ltb 4294967295 (u * 65536) (omega arith)) (covers-is c out u (over u) refl h)
 
-    pub listed-apart : Apart (map (λ p. p .x) (matchesOf c q))
-    listed-apart = those-apart (matches q) (members (treeOf c)) (members-apart s)
+  module _ (u v : ℕ) (out : List ℕ) (h : (over u || over v) ≡ false) (o : u ≤ v) where
+    -- law: those that meet u..v
+    pub meets-shows : Shows c out (Meets u v) (listMeets c u v out)
+    meets-shows =
+        let b = ltb-false 65535 u (neither (over u) (over v) h .0) in
+        shows-of (meetsLimits u v) (Meets u v) (listMeets c u v out) out (λ p k. meets-limits p k u v) (le-ltb 4294967295 (u * 65536) (omega arith))
+        (meets-is c out u v (over u || over v) refl h o)
 
-  -- law: the lists are exactly the strips that cover u, meet u..v, contain u..v
-  pub covers-listed : (u : ℕ) (p : Pair) → List·Memᴰ p (matchesOf c (coversLimits u)) ↔ (List·Memᴰ p (stored c) × Covers u p)
-  covers-listed u = listed-mem (coversLimits u) (Covers u) (λ p b. covers-limits p b u)
+    -- law: those that contain u..v
+    pub contains-shows : Shows c out (Contains u v) (listContains c u v out)
+    contains-shows =
+        let b = ltb-false 65535 v (neither (over u) (over v) h .1) in
+        shows-of (containsLimits u v) (Contains u v) (listContains c u v out) out (λ p k. contains-limits p k u v) (le-ltb 4294967295 (v * 65536) (omega arith))
+        (contains-is c out u v (over u || over v) refl h o)
 
-  pub meets-listed : (u v : ℕ) (p : Pair) → List·Memᴰ p (matchesOf c (meetsLimits u v)) ↔ (List·Memᴰ p (stored c) × Meets u v p)
-  meets-listed u v = listed-mem (meetsLimits u v) (Meets u v) (λ p b. meets-limits p b u v)
+-- law: an earliest start is no later than any other
+pub unbeaten-start : (p q : Pair) → Unbeaten p q → startOf p ≤ startOf q
+unbeaten-start p q h = on (ltb (q .y) (p .y))
+    (λ t. absurd (clash (true-beats {p = q} {q = p} (lower (ltb-true _ _ t))) h)) (λ f. ltb-false (q .y) (p .y) f)
 
-  pub contains-listed : (u v : ℕ) (p : Pair) → List·Memᴰ p (matchesOf c (containsLimits u v)) ↔ (List·Memᴰ p (stored c) × Contains u v p)
-  contains-listed u v = listed-mem (containsLimits u v) (Contains u v) (λ p b. contains-limits p b u v)
+module _ (p : Pair) (u v : ℕ) (o : u ≤ v) where
+  -- law: a strip meets u..v exactly when it covers some slot of them
+  pub meets-some : startOf p ≤ endOf p → Meets u v p ↔ CoversSome u v p
+  meets-some k = (
+    λ m. let a = m .start in
+        let b = m .end in
+        on (ltb u (startOf p))
+        (λ t. let l = ltb-true u (startOf p) t in
+        record { slot = startOf p; from = omega arith; to = a; covered = record { start = omega arith; end = k } })
+        (λ f. record { slot = u; from = omega arith; to = o; covered = record { start = ltb-false u (startOf p) f; end = b } }),
+    λ w. let a = w .from in
+        let b = w .to in
+        let d = w .covered .start in
+        let e = w .covered .end in
+        record { start = omega arith; end = omega arith },
+  )
+
+  -- law: it contains u..v exactly when it covers every slot of them
+  pub contains-all : Contains u v p ↔ CoversAll u v p
+  contains-all = (
+    λ m w a b. let d = m .start in
+        let e = m .end in
+        record { start = omega arith; end = omega arith },
+    λ h. record { start = h u (omega arith) o .start; end = h v o (omega arith) .end },
+  )

@@ -1,4 +1,4 @@
--- Strip calls over runs: each is a call of the pool or a refusal that changes nothing, so the pool's laws carry over. Assumes nothing.
+-- Strip calls over runs: each is a call of the pool or a refusal that changes nothing, so the pool's laws carry over.
 use Prim.Native.Nat.{ℕ, _+_, _*_, _≤_, _<_}
 use mathlib.Core.Path.{_≡_, refl, sym, ap, _∙_}
 use mathlib.Core.Logic.{_≢_}
@@ -19,12 +19,12 @@ use Rattle.pool.specs.Asking.{smallestXAnswer, largestXAnswer, smallestYAnswer,
 use Rattle.pool.specs.Changing.{insertion, deletion}
 use Rattle.rule.specs.declared.Outcome.the-variants.{Refused}
 use Rattle.pool.specs.Playing.{Call, play, Book, Kept, Played, changed, kept, plainly, SmallX}
-use Rattle.pool.specs.TakingBack.{accepted, run, takeBack, insert, delete, Each}
+use Rattle.pool.specs.TakingBack.{accepted, insert, delete, Each, TakenBack}
 use Rattle.pool.proofs.Played.{Same, Ends, plays}
-use Rattle.pool.proofs.TakenBack.{back, same, back-exact}
+use Rattle.pool.proofs.TakenBack.{back, same, does, back-exact}
 use Rattle.strips.specs.Strips.{stripPair, over, noStrip, coversLimits, lastLimits}
 use Rattle.strips.specs.Promises.{stripLine, orderLine, opening, closing, firstToEnd, lastToEnd, earliestStart, listCovers, listMeets, listContains}
-use Rattle.strips.specs.Runs.{Named, StripChange, opened, closed, performStrip, reverseStrip, StripCall, opens, closes, first, last, earliest, covers, meets, contains, playStrip, ownLines, callOf, plainBy, plainlyStrip, StripRun, playStrips, StripTold, plainlyStrips}
+use Rattle.strips.specs.Runs.{Named, StripChange, opened, closed, performStrip, reverseStrip, DoesStrip, StripCall, opens, closes, first, last, earliest, covers, meets, contains, playStrip, ownLines, callOf, plainBy, plainlyStrip, StripRun, playStrips, StripTold, plainlyStrips}
 use Rattle.strips.proofs.Tabled.{opening-passed, closing-passed, strip-fits, first-asked, last-asked, earliest-asked, covers-is, meets-is, contains-is}
 
 -- a strip's x is of 32 bits
@@ -58,7 +58,7 @@ undo c (closed n) g t = on (bad c n)
     (λ b. let e = closing-passed c (n .start) (n .end) (n .number) b in
     let t′ : accepted (deletion c (stripPair (n .start) (n .end) (n .number))) ≡ true = rw e at t in
     rw (e, opening-passed (deletion c (stripPair (n .start) (n .end) (n .number)) .cells) (n .start) (n .end) (n .number) b)
-    (back c (delete (stripPair (n .start) (n .end) (n .number))) (small-x n b) t′))
+    (back c (delete (stripPair (n .start) (n .end) (n .number))) tt t′))
 
 stay : (c : List ℕ) (k : StripChange) → accepted (performStrip c k) ≡ false → performStrip c k .cells ≡ c
 stay c (opened n) f = on (bad c n)
@@ -72,10 +72,18 @@ every : (ks : List StripChange) → Each (λ k. Unit {0}) ks
 every [] = tt
 every (k ∷ ks) = (tt, every ks)
 
+does-strip : (c : List ℕ) (k : StripChange) → Unit {0} → accepted (performStrip c k) ≡ true → DoesStrip k c (performStrip c k .cells)
+does-strip c (opened n) g t = on (bad c n)
+    (λ b. absurd (clash t (open-bad c n b .0)))
+    (λ b. let e = opening-passed c (n .start) (n .end) (n .number) b in
+    rw e (does c (insert (stripPair (n .start) (n .end) (n .number))) (small-x n b) (rw e at t)))
+does-strip c (closed n) g t = on (bad c n)
+    (λ b. absurd (clash t (close-bad c n b .0)))
+    (λ b. let e = closing-passed c (n .start) (n .end) (n .number) b in rw e (does c (delete (stripPair (n .start) (n .end) (n .number))) tt (rw e at t)))
+
 -- law: openings and closings with any numbers at all are taken back exactly, from any cells
-pub strips-back : (ks : List StripChange) (c : List ℕ)
-    → takeBack performStrip reverseStrip (run performStrip ks c [] .done) (run performStrip ks c [] .cells) ≡ record { cells = c; all = true }
-strips-back ks c = back-exact performStrip reverseStrip (λ k. Unit {0}) undo stay ks c (every ks)
+pub strips-back : (ks : List StripChange) (c : List ℕ) → TakenBack performStrip reverseStrip DoesStrip ks c
+strips-back ks c = back-exact performStrip reverseStrip (λ k. Unit {0}) undo stay DoesStrip does-strip ks c (every ks)
 
 -- over a plain list
 module _ (c : List ℕ) (b : Book) (h : Same c b) where

@@ -1,4 +1,4 @@
--- The strip calls' tables: a line of their own that does not hold leaves the pool call's table. Assumes nothing.
+-- The strip calls' tables: a line of their own that does not hold leaves the pool call's table.
 use Prim.Native.Nat.{ℕ, _+_, _*_, _≤_, _<_}
 use mathlib.Core.Path.{_≡_, refl, sym, ap, _∙_}
 use mathlib.Core.Bool.{Bool, true, false, _||_}

@@ -1,4 +1,5 @@
--- Strips as pairs, the promises of the strip calls, and what a rider may read in them.
+-- Strips as pairs, the promises of the strip calls, what a rider may read in them, and runs of calls.
 pub mod Strips
 pub mod Promises
+pub mod Riding
 pub mod Runs

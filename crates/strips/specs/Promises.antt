@@ -1,9 +1,8 @@
 -- What the strip calls answer, and what each cell then holds, for every pool and all numbers.
 use Prim.Native.Nat.{ℕ, _+_, _*_}
 use mathlib.Core.Bool.{Bool, _||_}
-use mathlib.Core.List.{List, [], _∷_, _++_}
+use mathlib.Core.List.{List, [], _∷_}
 use lib.Dec.{ltb}
-use lib.ListN.{length, take}
 use Rattle.rule.specs.declared.Answer.{Answer}
 use Rattle.rule.specs.declared.Limits.{Limits}
 use Rattle.rule.specs.declared.Pair.{Pair}
@@ -14,10 +13,10 @@ use Rattle.rule.specs.Laid.{inserted, deleted}
 use Rattle.rule.specs.Plain.{smallestXOf, largestXOf, smallestYOf}
 use Rattle.rule.specs.Refusals.{Line, answerBy, Left, leftBy}
 use Rattle.rule.specs.Stripe.{rootStripe}
-use Rattle.rule.specs.Walks.{smallestX, largestX, smallestY, listing, roomOf, written}
+use Rattle.rule.specs.Walks.{smallestX, largestX, smallestY}
 use Rattle.sound.specs.Promises.{lengthLine, soundLine}
 use Rattle.pool.specs.Changing.{takenLine, fullLine, missingLine, otherLine}
-use Rattle.pool.specs.Asking.{treeOf, answered, matchesOf, listedBy}
+use Rattle.pool.specs.Asking.{treeOf, answered, listedOf}
 use Rattle.strips.specs.Strips.{stripPair, over, noStrip, coversLimits, lastLimits, meetsLimits, containsLimits}
 
 -- a start, end, number or asked slot over 65,535, or start > end
@@ -60,12 +59,7 @@ earliestStart c u v =
 
 -- a list of strips in walk order, with the limits and the refusals of its question
 abbrev pub listed : List Line → List ℕ → Limits → List ℕ → Left
-listed lines c q out =
-    let ps : List Pair = take (roomOf out) (matchesOf c q) in
-    leftBy (lengthLine c ∷ soundLine c ∷ lines) out (record {
-      cells = written ps out;
-      answer = listedBy (length ps) (ltb (roomOf out) (length (matchesOf c q))) (listing q rootStripe (treeOf c) (roomOf out) .visits);
-    })
+listed lines c q out = leftBy (lengthLine c ∷ soundLine c ∷ lines) out (listedOf c q out)
 
 unfoldable pub listCovers : List ℕ → ℕ → List ℕ → Left
 listCovers c u out = listed (stripLine (over u) ∷ []) c (coversLimits u) out

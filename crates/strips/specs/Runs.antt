@@ -1,11 +1,12 @@
 -- Runs of strip calls: taken back, and over a plain list.
 use Prim.Native.Nat.{ℕ, _+_, _*_}
-use mathlib.Core.Bool.{Bool, cond, _||_}
+use mathlib.Core.Bool.{cond, _||_}
 use mathlib.Core.List.{List, [], _∷_}
 use Rattle.rule.specs.declared.Outcome.{Outcome}
 use Rattle.rule.specs.declared.Outcome.the-variants.{Refused}
 use Rattle.rule.specs.Refusals.{Line, Left}
 use Rattle.pool.specs.Playing.{Call, insert, delete, smallest-x, largest-x, smallest-y, list, Played, changed, Book, Kept, kept, plainly}
+use Rattle.pool.specs.TakingBack.{Gains}
 use Rattle.strips.specs.Strips.{stripPair, over, noStrip, coversLimits, lastLimits, meetsLimits, containsLimits}
 use Rattle.strips.specs.Promises.{stripLine, orderLine, opening, closing, firstToEnd, lastToEnd, earliestStart, listCovers, listMeets, listContains}
 
@@ -27,6 +28,11 @@ performStrip c (closed n) = closing c (n .start) (n .end) (n .number)
 abbrev pub reverseStrip : StripChange → StripChange
 reverseStrip (opened n) = closed n
 reverseStrip (closed n) = opened n
+
+-- what an accepted one does to the stored set, from the cells c to the cells d
+abbrev pub DoesStrip : StripChange → List ℕ → List ℕ → Type 0
+DoesStrip (opened n) c d = Gains (stripPair (n .start) (n .end) (n .number)) c d
+DoesStrip (closed n) c d = Gains (stripPair (n .start) (n .end) (n .number)) d c
 
 -- the strip calls; a list lends a slice
 pub data StripCall : Type 0 where

@@ -1,8 +1,7 @@
 -- A strip is valid from a start to an end, and has a number; it is stored as a pair.
 use Prim.Native.Nat.{ℕ, _+_, _*_, _/_, _%_, _≤_}
-use mathlib.Core.Path.{_≡_}
-use mathlib.Core.Bool.{Bool, not, _&&_, _||_}
-use lib.Dec.{ltb, leb}
+use mathlib.Core.Bool.{Bool, _||_}
+use lib.Dec.{ltb}
 use Rattle.rule.specs.declared.Limits.{Limits}
 use Rattle.rule.specs.declared.Pair.{Pair}
 
@@ -29,12 +28,12 @@ pub record Covers (u : ℕ) (p : Pair) : Type 0 where
   pub start : startOf p ≤ u
   pub end : u ≤ endOf p
 
--- it meets u..v when it covers a slot of them
+-- it meets u..v when it starts by v and ends from u on: it covers a slot of them (proofs/Limits.antt)
 pub record Meets (u v : ℕ) (p : Pair) : Type 0 where
   pub start : startOf p ≤ v
   pub end : u ≤ endOf p
 
--- it contains u..v when it covers every slot of them
+-- it contains u..v when it starts by u and ends from v on: it covers every slot of them (proofs/Limits.antt)
 pub record Contains (u v : ℕ) (p : Pair) : Type 0 where
   pub start : startOf p ≤ u
   pub end : v ≤ endOf p

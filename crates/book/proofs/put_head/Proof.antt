@@ -1,4 +1,4 @@
--- A word and the version. Assumes nothing.
+-- A word and the version.
 use Rattle.book.proofs.Bytes.{one-head}
 use borrow.Author.Needs.{needs}
 use Rattle.book.proofs.put_head.Statement.{statement}

@@ -1,4 +1,4 @@
--- Two words. Assumes nothing.
+-- Two words.
 use Rattle.book.proofs.Bytes.{one-pair}
 use borrow.Author.Needs.{needs}
 use Rattle.book.proofs.put_pair.Statement.{statement}

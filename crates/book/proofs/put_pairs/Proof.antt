@@ -1,4 +1,4 @@
--- The invariant: what is still to be written, written, gives what was to be written at first. Assumes nothing.
+-- The invariant: what is still to be written, written, gives what was to be written at first.
 use mathlib.Core.Path.{refl}
 use Rattle.book.proofs.Next.{toWrite, Turn, nothing-left, next, one-less, next-last, first-turn, all-written, room-here, next-turn, last-written}
 use borrow.Author.Needs.{needs}

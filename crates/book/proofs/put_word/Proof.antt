@@ -1,4 +1,4 @@
--- Four stores are a word. Assumes nothing.
+-- Four stores are a word.
 use native.Mathlib.Omega.{arith}
 use lib.ListN.{length-set}
 use Rattle.book.proofs.Bytes.{one-word}

@@ -1,4 +1,4 @@
--- Each way out is one law. Assumes nothing.
+-- Each way out is one law.
 use Rattle.book.proofs.Entry.{too-short, still-room, all-saved}
 use borrow.Author.Needs.{needs}
 use Rattle.book.proofs.save_sound.Statement.{statement}

@@ -1,4 +1,4 @@
--- The test picks the cell. Assumes nothing.
+-- The test picks the cell.
 use Rattle.rule.specs.Cells.{linkCell}
 use borrow.Author.Needs.{needs}
 use Rattle.cells.proofs.link_cell.Statement.{statement}

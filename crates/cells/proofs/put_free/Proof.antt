@@ -1,4 +1,4 @@
--- The two stores, one after the other. Assumes nothing.
+-- The two stores, one after the other.
 use mathlib.Core.Path.{_∙_}
 use borrow.Author.Needs.{needs}
 use Rattle.cells.proofs.put_free.Statement.{statement}

@@ -1,4 +1,4 @@
--- Each store keeps the length. Assumes nothing.
+-- Each store keeps the length.
 use native.Mathlib.Omega.{arith}
 use lib.ListN.{length-set}
 use borrow.Author.Needs.{needs}

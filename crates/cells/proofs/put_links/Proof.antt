@@ -1,4 +1,4 @@
--- The first store keeps the length. Assumes nothing.
+-- The first store keeps the length.
 use native.Mathlib.Omega.{arith}
 use lib.ListN.{length-set}
 use borrow.Author.Needs.{needs}

@@ -1,4 +1,4 @@
--- The test picks the link. Assumes nothing.
+-- The test picks the link.
 use Rattle.rule.specs.Cells.{sonAt}
 use borrow.Author.Needs.{needs}
 use Rattle.cells.proofs.son.Statement.{statement}

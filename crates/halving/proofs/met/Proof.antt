@@ -1,4 +1,4 @@
--- The invariant: what is left to look for, found, is what was to be found. Assumes nothing.
+-- The invariant: what is left to look for, found, is what was to be found.
 use mathlib.Core.Path.{_≡_, refl, _∙_}
 use native.Mathlib.Omega.{arith}
 use Rattle.rule.specs.Changes.{met}

@@ -1,4 +1,4 @@
--- Each way out is one law. Assumes nothing.
+-- Each way out is one law.
 use mathlib.Core.Path.{sym, ap, _∙_}
 use Rattle.rule.specs.declared.Finding.the-variants.{Found}
 use Rattle.questions.proofs.Finding.{found-none, found-some}

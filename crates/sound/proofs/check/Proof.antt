@@ -1,4 +1,4 @@
--- Each verdict is one line of the table, or none. Assumes nothing.
+-- Each verdict is one line of the table, or none.
 use Rattle.rule.specs.Refusals.{answerBy}
 use Rattle.sound.specs.Promises.{checked}
 use Rattle.sound.proofs.Judged.{found-sound, found-unsound, found-odd}

@@ -1,4 +1,4 @@
--- The two tests, in 01's order. Assumes nothing.
+-- The two tests, in 01's order.
 use mathlib.Core.Path.{sym, _∙_}
 use borrow.Author.Tests.{not-true, not-false}
 use Rattle.rule.proofs.Decided.{pool-true}

@@ -1,4 +1,4 @@
--- The mark, the tree and the rest, in the code's order. Assumes nothing.
+-- The mark, the tree and the rest, in the code's order.
 use Rattle.sound.proofs.Whole.{other-mark, bad-tree, all-sound, bad-rest}
 use borrow.Author.Needs.{needs}
 use Rattle.sound.proofs.is_sound.Statement.{statement}

@@ -1,4 +1,4 @@
--- The length decides; a fresh pool is written, or nothing. Assumes nothing.
+-- The length decides; a fresh pool is written, or nothing.
 use mathlib.Core.Path.{refl, sym, _∙_}
 use Rattle.rule.specs.Refusals.{leftBy}
 use Rattle.rule.proofs.Decided.{pool-true}

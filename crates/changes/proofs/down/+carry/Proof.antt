@@ -1,4 +1,4 @@
--- At an empty place the free slot is taken; at a slot the beaten pair goes on, with a level less. Assumes nothing.
+-- At an empty place the free slot is taken; at a slot the beaten pair goes on, with a level less.
 use Prim.Native.Nat.{ℕ, _<_}
 use Rattle.changes.proofs.Carrying.{going-room, going-fits, put-there, some-left, one-less, goes-on, gone}
 use borrow.Author.Needs.{needs}

@@ -1,4 +1,4 @@
--- The pair goes down from the root, and then the count moves. Assumes nothing.
+-- The pair goes down from the root, and then the count moves.
 use native.Mathlib.Omega.{arith}
 use Rattle.changes.proofs.Entering.{root-going, entered}
 use borrow.Author.Needs.{needs}

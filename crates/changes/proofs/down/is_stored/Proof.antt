@@ -1,4 +1,4 @@
--- The search from the root. Assumes nothing.
+-- The search from the root.
 use Rattle.changes.proofs.Entering.{root-sought, root-met}
 use borrow.Author.Needs.{needs}
 use Rattle.changes.proofs.down.is_stored.Statement.{statement}

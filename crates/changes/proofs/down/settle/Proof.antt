@@ -1,4 +1,4 @@
--- The test picks the pair that stays. Assumes nothing.
+-- The test picks the pair that stays.
 use Rattle.changes.proofs.Carrying.{settle-swap, settle-keep}
 use borrow.Author.Needs.{needs}
 use Rattle.changes.proofs.down.settle.Statement.{statement}

@@ -1,4 +1,4 @@
--- The stores, one after the other. Assumes nothing.
+-- The stores, one after the other.
 use mathlib.Core.Path.{_∙_}
 use lib.ListN.{length-set}
 use Rattle.changes.proofs.Carrying.{took}

@@ -1,4 +1,4 @@
--- The heir's pair moves up, and the hole goes on to its place. Assumes nothing.
+-- The heir's pair moves up, and the hole goes on to its place.
 use Prim.Native.Nat.{ℕ, _<_}
 use native.Mathlib.Omega.{arith}
 use Rattle.changes.proofs.Filling.{hole-sons, may-release, last-freed, promotes, deeper, next-hole, on-freed}

@@ -1,4 +1,4 @@
--- One walk: the pair is met and the hole filled, or the walk goes on, to the side of the middle where x lies. Assumes nothing.
+-- One walk: the pair is met and the hole filled, or the walk goes on, to the side of the middle where x lies.
 use Prim.Native.Nat.{ℕ, _<_}
 use native.Mathlib.Omega.{arith}
 use Rattle.changes.proofs.Removing.{none-here, met-fits, met-hole, other-here, done-here, deeper, looking-on, removed-on}

@@ -1,4 +1,4 @@
--- A removal from the root, and the count less one. Assumes nothing.
+-- A removal from the root, and the count less one.
 use native.Mathlib.Omega.{arith}
 use Rattle.changes.proofs.Deletion.{looking-root, some-counted, deletes-done, deletes-missing, deletes-other}
 use borrow.Author.Needs.{needs}

@@ -1,4 +1,4 @@
--- The heir: each way out is one law. Assumes nothing.
+-- The heir: each way out is one law.
 use Rattle.changes.proofs.Filling.{neither, only-right, only-left, both-sons}
 use borrow.Author.Needs.{needs}
 use Rattle.changes.proofs.hole.heir.Statement.{statement}

@@ -1,4 +1,4 @@
--- The heir's pair moves up. Assumes nothing.
+-- The heir's pair moves up.
 use Rattle.changes.specs.Hole.{promoted}
 use borrow.Author.Needs.{needs}
 use Rattle.changes.proofs.hole.promote.Statement.{statement}

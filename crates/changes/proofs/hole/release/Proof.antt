@@ -1,4 +1,4 @@
--- A slot is given up. Assumes nothing.
+-- A slot is given up.
 use mathlib.Core.Path.{_∙_}
 use native.Mathlib.Omega.{arith}
 use lib.ListN.{length-set}

@@ -1,4 +1,4 @@
--- Each case of the finding. Assumes nothing.
+-- Each case of the finding.
 use borrow.Author.Needs.{needs}
 use Rattle.pool.proofs.ask.answered.Statement.{statement}
 use Rattle.pool.proofs.ask.answered.Tie as tie

@@ -1,4 +1,4 @@
--- The verdict on the pool decides. Assumes nothing.
+-- The verdict on the pool decides.
 use Rattle.pool.specs.Asking.{smallestYAnswer}
 use Rattle.sound.proofs.Lines.{health-sound, answer-odd, answer-ill}
 use borrow.Author.Needs.{needs}

@@ -1,4 +1,4 @@
--- Backwards limits are refused; else the walk answers. Assumes nothing.
+-- Backwards limits are refused; else the walk answers.
 use Rattle.pool.specs.Asking.{smallestYAnswer}
 use Rattle.pool.proofs.Asked.{backwards, smallestY-asked}
 use borrow.Author.Needs.{needs}

@@ -1,4 +1,4 @@
--- The verdict on the pool decides. Assumes nothing.
+-- The verdict on the pool decides.
 use Rattle.sound.proofs.Lines.{health-sound}
 use Rattle.pool.proofs.Entries.{delete-odd, delete-ill}
 use borrow.Author.Needs.{needs}

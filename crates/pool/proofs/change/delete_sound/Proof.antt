@@ -1,4 +1,4 @@
--- Each removal is one line of the table, or none. Assumes nothing.
+-- Each removal is one line of the table, or none.
 use Rattle.pool.proofs.Entries.{delete-done, delete-missing, delete-other}
 use borrow.Author.Needs.{needs}
 use Rattle.pool.proofs.change.delete_sound.Statement.{statement}

@@ -1,4 +1,4 @@
--- Each way out is one law. Assumes nothing.
+-- Each way out is one law.
 use Rattle.pool.proofs.Entries.{insert-taken, insert-full, insert-enters, insert-done}
 use borrow.Author.Needs.{needs}
 use Rattle.pool.proofs.change.insert_sound.Statement.{statement}

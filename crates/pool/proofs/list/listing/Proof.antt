@@ -1,4 +1,4 @@
--- The verdict on the pool decides. Assumes nothing.
+-- The verdict on the pool decides.
 use Rattle.pool.specs.Asking.{listingLeft}
 use Rattle.sound.proofs.Lines.{health-sound, left-odd, left-ill}
 use borrow.Author.Needs.{needs}

@@ -1,4 +1,4 @@
--- Backwards limits are refused; else the walk lists. Assumes nothing.
+-- Backwards limits are refused; else the walk lists.
 use Rattle.pool.proofs.Asked.{list-backwards, list-made}
 use borrow.Author.Needs.{needs}
 use Rattle.pool.proofs.list.listing_sound.Statement.{statement}

@@ -1,4 +1,4 @@
--- Each way out of a slot is one law; a son that is there and asked goes on with a level less. Assumes nothing.
+-- Each way out of a slot is one law; a son that is there and asked goes on with a level less.
 use Prim.Native.Nat.{ℕ, _+_, _*_, _<_}
 use native.Mathlib.Omega.{arith}
 use Rattle.questions.proofs.Filling.{still-fits}

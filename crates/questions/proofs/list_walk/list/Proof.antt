@@ -1,4 +1,4 @@
--- The listing from the root. Assumes nothing.
+-- The listing from the root.
 use native.Mathlib.Omega.{arith}
 use Rattle.questions.proofs.ListTop.{from-root, room-fits, count-fits, list-full, list-whole}
 use borrow.Author.Needs.{needs}

@@ -1,4 +1,4 @@
--- Each way out is one law. Assumes nothing.
+-- Each way out is one law.
 use native.Mathlib.Omega.{arith}
 use lib.ListN.{length-set}
 use Rattle.questions.proofs.ListWalk.{own-low, own-high, own-counted, own-put}

@@ -1,4 +1,4 @@
--- A slot asks its right son, and its left one where that gave nothing; a son that is there and asked goes on with a level less. Assumes nothing.
+-- A slot asks its right son, and its left one where that gave nothing; a son that is there and asked goes on with a level less.
 use Prim.Native.Nat.{ℕ, _+_, _*_, _<_}
 use native.Mathlib.Omega.{arith}
 use Rattle.rule.specs.Walks.{largestX}

@@ -1,4 +1,4 @@
--- A slot asks its left son, and its right one where that gave nothing; a son that is there and asked goes on with a level less. Assumes nothing.
+-- A slot asks its left son, and its right one where that gave nothing; a son that is there and asked goes on with a level less.
 use Rattle.rule.specs.Walks.{smallestX}
 use Prim.Native.Nat.{ℕ, _+_, _*_, _<_}
 use native.Mathlib.Omega.{arith}

@@ -1,4 +1,4 @@
--- Each way out is one law. Assumes nothing.
+-- Each way out is one law.
 use borrow.Author.Tests.{lt-ltb, le-ltb}
 use Rattle.rule.specs.Plain.{smaller}
 use Rattle.questions.proofs.Finding.{too-low, too-high, own-alone, own-closer, below-stays}

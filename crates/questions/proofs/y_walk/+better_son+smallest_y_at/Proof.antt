@@ -1,4 +1,4 @@
--- A slot answers for itself or by its sons; a son that is asked has a level less. Assumes nothing.
+-- A slot answers for itself or by its sons; a son that is asked has a level less.
 use Prim.Native.Nat.{ℕ, _+_, _*_, _<_}
 use native.Mathlib.Omega.{arith}
 use Rattle.questions.proofs.Places.{there, one-more}

@@ -1,4 +1,4 @@
--- Each way out is one test. Assumes nothing.
+-- Each way out is one test.
 use borrow.Author.Tests.{eq-eqb, ne-eqb}
 use Rattle.questions.specs.Walking.{asks}
 use Rattle.questions.proofs.y_walk.asks.Statement.{statement}

@@ -1,4 +1,4 @@
--- Each way out is one test. Assumes nothing.
+-- Each way out is one test.
 use borrow.Author.Tests.{lt-leb, le-leb}
 use Rattle.questions.proofs.y_walk.in_range.Statement.{statement}
 use Rattle.questions.proofs.y_walk.in_range.Tie as tie

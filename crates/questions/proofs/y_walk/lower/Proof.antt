@@ -1,4 +1,4 @@
--- Each way out is one law. Assumes nothing.
+-- Each way out is one law.
 use Rattle.questions.proofs.YWalk.{lower-second, lower-first, second-lower, first-stays}
 use Rattle.questions.proofs.y_walk.lower.Statement.{statement}
 use Rattle.questions.proofs.y_walk.lower.Tie as tie

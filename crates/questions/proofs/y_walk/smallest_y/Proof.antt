@@ -1,4 +1,4 @@
--- From the root of a sound pool, unless it is empty. Assumes nothing.
+-- From the root of a sound pool, unless it is empty.
 use Rattle.questions.proofs.Top.{header, root-here, top-none, top-walked}
 use Rattle.questions.proofs.YWalk.{smallestY-empty}
 use Rattle.rule.specs.Walks.{smallestY}

@@ -1,4 +1,4 @@
--- Each way out is one way of the definition. Assumes nothing.
+-- Each way out is one way of the definition.
 use mathlib.Core.Path.{sym}
 use native.Mathlib.Omega.{arith}
 use Rattle.rule.specs.Pairs.{lower}

@@ -1,4 +1,4 @@
--- The middle is the definition's. Assumes nothing.
+-- The middle is the definition's.
 use borrow.Author.Needs.{needs}
 use Rattle.rule.proofs.Stripe.goes_left.Statement.{statement}
 use Rattle.rule.proofs.Stripe.goes_left.Tie as tie

@@ -1,4 +1,4 @@
--- Each test of the code is one of the definition's. Assumes nothing.
+-- Each test of the code is one of the definition's.
 use borrow.Author.Tests.{le-leb, lt-leb}
 use Rattle.rule.specs.Stripe.{holds}
 use Rattle.rule.proofs.Stripe.holds.Statement.{statement}

@@ -1,4 +1,4 @@
--- The middle is the part's new end. Assumes nothing.
+-- The middle is the part's new end.
 use borrow.Author.Needs.{needs}
 use Rattle.rule.proofs.Stripe.right.Statement.{statement}
 use Rattle.rule.proofs.Stripe.right.Tie as tie

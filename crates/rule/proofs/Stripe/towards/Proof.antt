@@ -1,4 +1,4 @@
--- The test picks the part. Assumes nothing.
+-- The test picks the part.
 use mathlib.Core.Path.{sym, _∙_}
 use Rattle.rule.specs.Stripe.{partOf}
 use borrow.Author.Needs.{needs}

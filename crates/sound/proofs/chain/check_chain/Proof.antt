@@ -1,4 +1,4 @@
--- The invariant: the rest of the chain is as fine as the whole. Assumes nothing.
+-- The invariant: the rest of the chain is as fine as the whole.
 use mathlib.Core.Path.{_≡_, refl, ap, _∙_}
 use Rattle.rule.specs.Test.{chainFine}
 use Rattle.sound.specs.Checked.{verdict}

@@ -1,4 +1,4 @@
--- Each way out is one law. Assumes nothing.
+-- Each way out is one law.
 use Rattle.sound.proofs.FreeChain.{other-count, too-many, the-rest}
 use borrow.Author.Needs.{needs}
 use Rattle.sound.proofs.chain.check_rest.Statement.{statement}

@@ -1,4 +1,4 @@
--- Each way out is one law. Assumes nothing.
+-- Each way out is one law.
 use Rattle.sound.proofs.FreeChain.{no-slot, too-far, some-x, some-y, the-mark}
 use borrow.Author.Needs.{needs}
 use Rattle.sound.proofs.chain.free_fine.Statement.{statement}

@@ -1,4 +1,4 @@
--- The side that is looked at is the definition's. Assumes nothing.
+-- The side that is looked at is the definition's.
 use Rattle.rule.proofs.Stripes.{low-left, low-right}
 use Rattle.sound.proofs.Sides.{alone-left, alone-right}
 use borrow.Author.Needs.{needs}

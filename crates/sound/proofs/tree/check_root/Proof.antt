@@ -1,4 +1,4 @@
--- The root's own tests, then its sons. Assumes nothing.
+-- The root's own tests, then its sons.
 use native.Mathlib.Omega.{arith}
 use borrow.Author.Tests.{not-true, not-false}
 use Rattle.rule.proofs.Stripes.{low-root}

@@ -1,4 +1,4 @@
--- Each way out is one case. Assumes nothing.
+-- Each way out is one case.
 use mathlib.Core.Path.{sym, _∙_}
 use native.Mathlib.Omega.{arith}
 use borrow.Author.Tests.{not-true, not-false}

@@ -1,4 +1,4 @@
--- Each way out is one law. Assumes nothing.
+-- Each way out is one law.
 use Rattle.sound.proofs.Places.{too-far, in-stripe}
 use borrow.Author.Needs.{needs}
 use Rattle.sound.proofs.tree.slot_fine.Statement.{statement}

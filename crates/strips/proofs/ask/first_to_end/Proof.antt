@@ -1,4 +1,4 @@
--- The slot decides; then the question. Assumes nothing.
+-- The slot decides; then the question.
 use Rattle.strips.proofs.Tabled.{slot-fits, first-refused, first-asked}
 use borrow.Author.Needs.{needs}
 use Rattle.strips.proofs.ask.first_to_end.Statement.{statement}

@@ -1,4 +1,4 @@
--- The slots decide; then the question. Assumes nothing.
+-- The slots decide; then the question.
 use Rattle.strips.proofs.Tabled.{slots-fit, last-refused, last-asked}
 use borrow.Author.Needs.{needs}
 use Rattle.strips.proofs.ask.last_to_end.Statement.{statement}

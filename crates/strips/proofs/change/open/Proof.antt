@@ -1,4 +1,4 @@
--- The strip's numbers decide; then the pair. Assumes nothing.
+-- The strip's numbers decide; then the pair.
 use Rattle.strips.proofs.Tabled.{strip-fits, open-refused, open-made}
 use borrow.Author.Needs.{needs}
 use Rattle.strips.proofs.change.open.Statement.{statement}

@@ -1,4 +1,4 @@
--- The slots decide; then the listing. Assumes nothing.
+-- The slots decide; then the listing.
 use Rattle.strips.proofs.Tabled.{slots-fit, contains-refused, contains-backwards, contains-made}
 use borrow.Author.Needs.{needs}
 use Rattle.strips.proofs.list.list_contains.Statement.{statement}

@@ -1,4 +1,4 @@
--- The slot decides; then the listing. Assumes nothing.
+-- The slot decides; then the listing.
 use Rattle.strips.proofs.Tabled.{slot-fits, covers-refused, covers-made}
 use borrow.Author.Needs.{needs}
 use Rattle.strips.proofs.list.list_covers.Statement.{statement}

@@ -1,4 +1,4 @@
--- The two tests, one after the other. Assumes nothing.
+-- The two tests, one after the other.
 use mathlib.Core.Path.{sym, _∙_}
 use borrow.Author.Needs.{needs}
 use Rattle.strips.proofs.shape.either_over.Statement.{statement}

@@ -1,4 +1,4 @@
--- The tests, one after the other. Assumes nothing.
+-- The tests, one after the other.
 use Rattle.strips.proofs.Tabled.{slots-over, number-over, end-before}
 use borrow.Author.Needs.{needs}
 use Rattle.strips.proofs.shape.no_strip.Statement.{statement}

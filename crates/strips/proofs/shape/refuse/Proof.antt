@@ -1,4 +1,4 @@
--- The verdict on the pool comes first. Assumes nothing.
+-- The verdict on the pool comes first.
 use mathlib.Core.List.{[]}
 use Rattle.rule.proofs.Tables.{answer-none}
 use Rattle.sound.proofs.Lines.{health-sound, answer-well, answer-odd, answer-ill}

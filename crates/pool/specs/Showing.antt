@@ -1,0 +1,21 @@
+-- What a listing shows of a sound pool.
+use Prim.Native.Nat.{ℕ}
+use mathlib.Core.Path.{_≡_}
+use mathlib.Core.Logic.{_↔_}
+use mathlib.Core.List.{List, map, List·Memᴰ}
+use lib.Dec.{ltb}
+use lib.ListN.{length, take}
+use Rattle.rule.specs.declared.Outcome.the-variants.{Listed}
+use Rattle.rule.specs.declared.Pair.{Pair}
+use Rattle.rule.specs.Cells.{stored}
+use Rattle.rule.specs.Refusals.{Left}
+use Rattle.rule.specs.Tree.{Apart}
+use Rattle.rule.specs.Walks.{roomOf, written}
+
+-- there is a list of exactly the stored pairs that are asked for, each once; as many as there is room for are written, and the answer says whether there are more
+pub record Shows (c out : List ℕ) (Asked : Pair → Type 0) (w : Left) : Type 0 where
+  pub all : List Pair
+  pub exactly : (p : Pair) → List·Memᴰ p all ↔ (List·Memᴰ p (stored c) × Asked p)
+  pub once : Apart (map (λ p. p .x) all)
+  pub cells : w .cells ≡ written (take (roomOf out) all) out
+  pub outcome : w .answer .outcome ≡ Listed (length (take (roomOf out) all)) (ltb (roomOf out) (length all))
