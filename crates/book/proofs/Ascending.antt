@@ -2,19 +2,18 @@
 use Prim.Native.Nat.{ℕ, suc, _+_, _≤_, _<_}
 use mathlib.Core.Path.{_≡_, refl, sym, ap, _∙_}
 use mathlib.Core.Logic.{_≢_, _↔_, _⊎_, inl, inr, ⊎-elim}
-use mathlib.Core.Bool.{Bool, true, false, cond}
 use mathlib.Core.List.{List, [], _∷_, map, List·Memᴰ, List·Memᴰ·head, List·Memᴰ·tail, List·Memᴰ·cases-cons}
 use native.Mathlib.Omega.{arith}
 use lib.Dec.{ltb, leb}
 use lib.ListN.{length}
-use borrow.Author.Tests.{ltb-true, ltb-false, le-leb, lt-leb, leb-true, leb-false}
+use borrow.Author.Tests.{ltb-true, ltb-false, le-leb, leb-true, leb-false}
 use Rattle.rule.specs.declared.Pair.{Pair}
 use Rattle.rule.specs.Plain.{those}
 use Rattle.rule.specs.Tree.{Differs, Apart}
 use Rattle.rule.proofs.Tests.{on}
 use Rattle.rule.proofs.Members.{apart-same}
 use Rattle.rule.proofs.Scan.{Alike}
-use Rattle.rule.proofs.Those.{those-mem, those-apart, those-all}
+use Rattle.rule.proofs.Those.{those-mem, those-apart}
 use Rattle.book.specs.Book.{place, byX}
 
 -- every x of the list is larger

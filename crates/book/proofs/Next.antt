@@ -14,7 +14,7 @@ use Rattle.rule.specs.declared.Finding.the-variants.{Found, Nothing}
 use Rattle.rule.specs.declared.Pair.{Pair}
 use Rattle.rule.specs.declared.Walked.{Walked}
 use Rattle.rule.specs.Cells.{perSlot, isFree, rootOf, storedFrom, stored, treeAt}
-use Rattle.rule.specs.Plain.{limits, matches, those, smaller, smallestXOf}
+use Rattle.rule.specs.Plain.{limits, matches, smaller, smallestXOf}
 use Rattle.rule.specs.Sound.{Sound, allLevels}
 use Rattle.rule.specs.Stripe.{rootStripe}
 use Rattle.rule.specs.Walks.{smallestX}

@@ -1,8 +1,7 @@
 // The cells of a pool, by name. Each slot, and the header, has PER_SLOT of them.
 use rule::Pair;
 ghost use mathlib.Core.Path.{_≡_};
-ghost use Prim.Native.Nat.{_≤_};
-ghost use lib.ListN.{length, set};
+ghost use lib.ListN.{set};
 ghost use Rattle.rule.specs.Cells.{Fits, markOf, rootOf, freeOf, countOf, pairAt, leftAt, rightAt, sonAt, linkCell, putPair, putLinks, putFree, putHeader};
 
 pub const PER_SLOT: usize = 4;

@@ -1,5 +1,5 @@
 -- A place of the tree: the cell that holds its link, which is cell 1 for the root, and a slot's left or right cell elsewhere.
-use Prim.Native.Nat.{ℕ, _+_, _*_, _/_}
+use Prim.Native.Nat.{ℕ, _/_}
 use mathlib.Core.Path.{_≡_}
 use mathlib.Core.Logic.{_≢_}
 use mathlib.Core.List.{List}

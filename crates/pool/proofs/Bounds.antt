@@ -3,7 +3,6 @@ use Prim.Native.Nat.{ℕ, _+_, _*_, _≤_}
 use mathlib.Core.Bool.{Bool}
 use mathlib.Core.List.{List, [], _∷_}
 use native.Mathlib.Omega.{arith}
-use lib.Dec.{ltb}
 use lib.ListN.{length, take}
 use Rattle.rule.specs.declared.Answer.{Answer}
 use Rattle.rule.specs.declared.Limits.{Limits}
@@ -13,7 +12,7 @@ use Rattle.rule.specs.Sound.{Sound, itself}
 use Rattle.rule.specs.Stripe.{rootStripe}
 use Rattle.rule.specs.Test.{isPool, isSound}
 use Rattle.rule.specs.Tree.{Well}
-use Rattle.rule.specs.Walks.{smallestX, largestX, smallestY, listing, roomOf}
+use Rattle.rule.specs.Walks.{listing, roomOf}
 use Rattle.rule.proofs.Tests.{on}
 use Rattle.rule.proofs.Decided.{test-sound, sound-well, sound-tree}
 use Rattle.rule.proofs.Lists.{listing-pairs}

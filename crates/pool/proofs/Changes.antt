@@ -2,14 +2,12 @@
 use Prim.Native.Nat.{ℕ, _<_}
 use mathlib.Core.Path.{_≡_, refl}
 use mathlib.Core.Logic.{_≢_, _↔_, _⊎_}
-use mathlib.Core.Bool.{Bool, true, false}
+use mathlib.Core.Bool.{true, false}
 use mathlib.Core.List.{List, List·Memᴰ}
-use native.Mathlib.Omega.{arith}
 use borrow.Author.Tests.{ne-eqb}
 use Rattle.rule.specs.declared.Pair.{Pair}
 use Rattle.rule.specs.Answer.{five, numbersOf}
 use Rattle.rule.specs.Cells.{stored}
-use Rattle.rule.specs.Laid.{inserted, deleted}
 use Rattle.rule.specs.Refusals.{Left}
 use Rattle.rule.specs.Sound.{Sound, itself}
 use Rattle.rule.specs.Stripe.{rootStripe}
@@ -20,10 +18,9 @@ use Rattle.rule.proofs.Same.{same-set}
 use Rattle.rule.proofs.Stored.{stored-mem}
 use Rattle.rule.proofs.Inserted.{inserted-sound, inserted-stored}
 use Rattle.rule.proofs.Deleted.{deleted-sound, deleted-stored, deleted-gone}
-use Rattle.changes.specs.Down.{Enters}
 use Rattle.pool.specs.Changing.{insertion, deletion}
 use Rattle.pool.specs.TakingBack.{accepted}
-use Rattle.pool.proofs.Views.{Does, refuses, makes, Exits, insertion-view, deletion-view}
+use Rattle.pool.proofs.Views.{Does, refuses, makes, insertion-view, deletion-view}
 
 module _ {c d : List ℕ} {M : Type 0} where
   -- a refusal leaves every cell

@@ -1,34 +1,30 @@
 -- Playing calls over a sound pool gives, call by call, the outcomes of the same calls over a plain list with the same pairs.
-use Prim.Native.Nat.{ℕ, _+_, _-_, _≤_, _<_}
+use Prim.Native.Nat.{ℕ, _-_, _≤_, _<_}
 use mathlib.Core.Path.{_≡_, refl, sym, ap, _∙_}
-use mathlib.Core.Logic.{_≢_, _↔_, _⊎_, inl, inr, ⊎-elim}
-use mathlib.Core.Bool.{Bool, true, false, cond, not}
-use mathlib.Core.List.{List, [], _∷_, map, List·Memᴰ, List·Memᴰ·head, List·Memᴰ·tail, List·Memᴰ·cases-cons}
+use mathlib.Core.Logic.{_≢_, _⊎_, inl, inr, ⊎-elim}
+use mathlib.Core.Bool.{true, false, not}
+use mathlib.Core.List.{List, [], _∷_, map, List·Memᴰ·head, List·Memᴰ·tail, List·Memᴰ·cases-cons}
 use native.Mathlib.Omega.{arith}
 use lib.Dec.{leb, eqb}
 use lib.ListN.{length}
-use borrow.Author.Tests.{eq-eqb, ne-eqb, le-leb, lt-leb, eqb-true, eqb-false, leb-true, not-true}
-use Rattle.rule.specs.declared.Limits.{Limits}
-use Rattle.rule.specs.declared.Outcome.{Outcome}
-use Rattle.rule.specs.declared.Outcome.the-variants.{Listed, Refused}
+use borrow.Author.Tests.{ne-eqb, le-leb, lt-leb, eqb-true, eqb-false, not-true}
 use Rattle.rule.specs.declared.Pair.{Pair}
-use Rattle.rule.specs.Cells.{slotsOf, freeOf, countOf, stored, fresh}
+use Rattle.rule.specs.Cells.{slotsOf, freeOf, countOf, stored}
 use Rattle.rule.specs.Laid.{inserted, deleted}
-use Rattle.rule.specs.Plain.{those, hasX, has}
+use Rattle.rule.specs.Plain.{hasX, has}
 use Rattle.rule.specs.Refusals.{leftBy}
 use Rattle.rule.specs.Sound.{Sound, Chain, ends, next}
 use Rattle.rule.specs.Tree.{Differs, Apart}
 use Rattle.rule.proofs.Tests.{on, clash}
 use Rattle.rule.proofs.Counts.{those-count}
 use Rattle.rule.proofs.Those.{those-all, those-mem, those-apart}
-use Rattle.rule.proofs.Decided.{true-pool, test-sound, sound-test}
+use Rattle.rule.proofs.Decided.{true-pool, sound-test}
 use Rattle.rule.proofs.Fresh.{fresh-sound, fresh-stored, fresh-slots}
 use Rattle.rule.proofs.Having.{hasX-true, true-hasX, has-true, true-has}
 use Rattle.rule.proofs.Inserted.{inserted-sound, inserted-length, inserted-stored}
 use Rattle.rule.proofs.Deleted.{deleted-sound, deleted-length, deleted-stored, deleted-gone}
 use Rattle.rule.proofs.Scan.{Alike}
 use Rattle.rule.proofs.Stored.{stored-apart, stored-count}
-use Rattle.sound.specs.Promises.{setUp}
 use Rattle.sound.proofs.Meaning.{set-up-done}
 use Rattle.pool.specs.Changing.{insertion, deletion}
 use Rattle.pool.specs.Playing.{Call, set-up, insert, delete, smallest-x, largest-x, smallest-y, list, Played, play, Book, Kept, without, plainly, Run, playAll, Told, plainlyAll, SmallX, AllSmallX}

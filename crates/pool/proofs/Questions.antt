@@ -1,23 +1,22 @@
 -- What the questions' promises give on a sound pool: the walks' findings, over any list with the stored pairs.
-use Prim.Native.Nat.{ℕ, min, _≤_}
-use mathlib.Core.Path.{_≡_, refl, sym, ap, _∙_}
+use Prim.Native.Nat.{ℕ, min}
+use mathlib.Core.Path.{_≡_}
 use mathlib.Core.Logic.{_↔_}
-use mathlib.Core.Bool.{Bool, true, false, cond}
+use mathlib.Core.Bool.{true, false, cond}
 use mathlib.Core.List.{List, map, List·Memᴰ}
 use lib.Dec.{ltb}
-use lib.ListN.{length, take, length-take}
+use lib.ListN.{length, length-take}
 use Rattle.rule.specs.declared.Limits.{Limits}
 use Rattle.rule.specs.declared.Outcome.{Outcome}
 use Rattle.rule.specs.declared.Outcome.the-variants.{Listed, Refused}
 use Rattle.rule.specs.declared.Pair.{Pair}
-use Rattle.rule.specs.Answer.{refused}
 use Rattle.rule.specs.Cells.{stored}
 use Rattle.rule.specs.Codes as codes
 use Rattle.rule.specs.Plain.{matches, those, smallestXOf, largestXOf, smallestYOf}
 use Rattle.rule.specs.Refusals.{answerBy, leftBy}
 use Rattle.rule.specs.Sound.{Sound, itself}
 use Rattle.rule.specs.Stripe.{rootStripe}
-use Rattle.rule.specs.Tree.{Tree, members, Apart}
+use Rattle.rule.specs.Tree.{members, Apart}
 use Rattle.rule.proofs.Tests.{on}
 use Rattle.rule.proofs.Counts.{those-count}
 use Rattle.rule.proofs.Decided.{true-pool, sound-test, sound-well, sound-tree}

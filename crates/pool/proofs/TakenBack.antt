@@ -1,9 +1,8 @@
 -- Any run of changes, the accepted ones reversed last first: each is accepted, and every cell is as it was.
-use Prim.Native.Nat.{ℕ, _<_}
-use mathlib.Core.Path.{_≡_, refl, sym, ap, _∙_}
-use mathlib.Core.Bool.{Bool, true, false, cond, _&&_}
+use Prim.Native.Nat.{ℕ}
+use mathlib.Core.Path.{_≡_, refl, ap, _∙_}
+use mathlib.Core.Bool.{true, false, cond}
 use mathlib.Core.List.{List, [], _∷_}
-use Rattle.rule.specs.declared.Pair.{Pair}
 use Rattle.rule.specs.Answer.{five, numbersOf, finished}
 use Rattle.rule.specs.Cells.{stored}
 use Rattle.rule.specs.Laid.{inserted, deleted}
@@ -13,7 +12,6 @@ use Rattle.rule.proofs.Having.{true-hasX}
 use Rattle.rule.proofs.Inserted.{inserted-sound}
 use Rattle.rule.proofs.Deleted.{deleted-sound}
 use Rattle.rule.proofs.TakenBack.{inserted-back, inserted-has, deleted-back, deleted-new, deleted-room}
-use Rattle.pool.specs.Changing.{insertion, deletion}
 use Rattle.pool.specs.TakingBack.{accepted, run, Returned, takeBack, Change, insert, delete, perform, reverse, Each, Small, Does, Played, TakenBack}
 use Rattle.pool.proofs.Views.{of-new, insertion-view, deletion-view, insertion-made, deletion-made}
 use Rattle.pool.proofs.Changes.{accepted-made, refused-same, insertion-stored, deletion-stored, deletion-gone}

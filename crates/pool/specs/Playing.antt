@@ -1,7 +1,6 @@
 -- Runs of calls: played over cells by the promises, and over a plain list.
 use Prim.Native.Nat.{ℕ, min, _<_}
-use mathlib.Core.Path.{_≡_}
-use mathlib.Core.Bool.{Bool, false, cond, not}
+use mathlib.Core.Bool.{false, cond, not}
 use mathlib.Core.List.{List, [], _∷_}
 use lib.Dec.{ltb, leb, eqb}
 use lib.ListN.{length}

@@ -4,7 +4,6 @@ use rule::Answer;
 use rule::Pair;
 use rule::codes;
 use sound::Health;
-ghost use mathlib.Core.Path.{_≡_};
 ghost use Rattle.rule.specs.Refusals.{Leaves};
 ghost use Rattle.rule.specs.Sound.{Sound};
 ghost use Rattle.pool.specs.Changing.{insertion, deletion};

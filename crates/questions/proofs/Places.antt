@@ -1,11 +1,10 @@
 -- What a walk relies on at a slot's sons, in whichever order they are asked.
 use Prim.Native.Nat.{ℕ, suc, _+_, _-_, _≤_, _<_}
-use mathlib.Core.Path.{_≡_, refl, sym, _∙_}
-use mathlib.Core.Bool.{Bool, true, false}
+use mathlib.Core.Path.{_≡_}
+use mathlib.Core.Bool.{true, false}
 use mathlib.Core.List.{List}
 use native.Mathlib.Omega.{arith}
-use Rattle.rule.specs.Cells.{Fits, pairAt, leftAt, rightAt, sonAt, treeAt}
-use Rattle.rule.specs.Sound.{Leads}
+use Rattle.rule.specs.Cells.{Fits, leftAt, rightAt, sonAt, treeAt}
 use Rattle.rule.specs.Stripe.{Stripe, leftPart, rightPart}
 use Rattle.rule.specs.Tree.{size}
 use Rattle.rule.proofs.Leads.{back, tree-fork, leads-deep, leads-fits, leads-son}

@@ -10,9 +10,9 @@ use Rattle.rule.specs.declared.Finding.{Finding}
 use Rattle.rule.specs.declared.Finding.the-variants.{Found, Nothing}
 use Rattle.rule.specs.declared.Pair.{Pair}
 use Rattle.rule.specs.declared.Walked.{Walked}
-use Rattle.rule.specs.Cells.{rootOf, pairAt, leftAt, rightAt, treeAt}
+use Rattle.rule.specs.Cells.{pairAt, leftAt, rightAt, treeAt}
 use Rattle.rule.specs.Plain.{inRange, closest}
-use Rattle.rule.specs.Sound.{Leads, allLevels}
+use Rattle.rule.specs.Sound.{Leads}
 use Rattle.rule.specs.Stripe.{Stripe, Low, rootStripe, middle, leftPart, rightPart}
 use Rattle.rule.specs.Tree.{none, size}
 use Rattle.rule.specs.Walks.{seen, ask, smallestY}
@@ -23,7 +23,6 @@ use Rattle.rule.proofs.Stripes.{low-left, low-right}
 use Rattle.questions.specs.Walking.{foundAt, Some, Asked, Made, asks, lowerY, Lower, lowerOf, Asked-sons}
 use Rattle.questions.proofs.Finding.{not-lt, no-slot, found-none, found-some}
 use Rattle.questions.proofs.Places.{some, there, size-here, asked-left, asked-right}
-use Rattle.questions.proofs.Top.{walked}
 use Rattle.questions.proofs.XWalks.{made-none}
 
 -- of two findings

@@ -1,13 +1,13 @@
 -- Taking back, slots included: what was put in is taken out, what was taken out is put in.
 use Prim.Native.Nat.{ℕ}
-use mathlib.Core.Path.{_≡_, refl}
+use mathlib.Core.Path.{_≡_}
 use Rattle.rule.specs.declared.Pair.{Pair}
 use Rattle.rule.specs.Stripe.{Stripe, In}
-use Rattle.rule.specs.Tree.{Tree, none, fork, All, Mem, Tops, Under, Well}
+use Rattle.rule.specs.Tree.{Tree, fork, All, Mem, Tops, Under, Well}
 use Rattle.rule.specs.Changes.{goDown, takeOut}
 use Rattle.rule.proofs.Order.{beats-asym}
 use Rattle.rule.proofs.Trees.{New, tops-of}
-use Rattle.rule.proofs.GoDown.{swap, keep, Down, put, go-left, go-right, step, down-view, down-value}
+use Rattle.rule.proofs.GoDown.{swap, keep, Down, put, go-left, go-right, down-view, down-value}
 use Rattle.rule.proofs.TakeOut.{Filled, last, from-left, from-right, Taken, hit, out-left, out-right, all-taken, taken-view, taken-value}
 
 module _ {A : Type 0} (key : A → Pair) where

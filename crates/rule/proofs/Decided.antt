@@ -1,22 +1,22 @@
 -- The test of a pool is true exactly where the pool is sound.
-use Prim.Native.Nat.{ℕ, zero, suc, _+_, _*_, _-_, _/_, _≤_, _<_}
-use mathlib.Core.Path.{_≡_, refl, sym, ap, _∙_}
-use mathlib.Core.Logic.{_⊎_, inl, inr, ⊎-elim, _↔_}
-use mathlib.Core.Bool.{Bool, true, false, cond, not, _&&_, _||_}
+use Prim.Native.Nat.{ℕ, zero, suc, _+_, _*_, _-_, _≤_}
+use mathlib.Core.Path.{_≡_, refl, ap}
+use mathlib.Core.Logic.{_↔_}
+use mathlib.Core.Bool.{Bool, true, false, cond, not, _&&_}
 use mathlib.Core.List.{List, [], _∷_}
 use native.Mathlib.Omega.{arith}
 use lib.Dec.{ltb, leb, eqb}
 use lib.ListN.{length}
-use borrow.Author.Tests.{eq-eqb, ne-eqb, le-leb, lt-ltb, le-ltb, eqb-true, eqb-false, leb-true, ltb-true, ltb-false, not-true}
+use borrow.Author.Tests.{eq-eqb, ne-eqb, le-leb, lt-ltb, eqb-true, eqb-false, leb-true, ltb-true, ltb-false, not-true}
 use Rattle.rule.specs.declared.Pair.{Pair}
 use Rattle.rule.specs.Pairs.{beats}
 use Rattle.rule.specs.Stripe.{Stripe, In, holds, rootStripe, middle, leftPart, rightPart}
-use Rattle.rule.specs.Tree.{Tree, none, fork, size, Tops, free, over, Within, Well}
+use Rattle.rule.specs.Tree.{Tree, fork, size, Tops, free, over, Within, Well}
 use Rattle.rule.specs.Changes.{met}
 use Rattle.rule.specs.Cells.{perSlot, slotsOf, markOf, rootOf, freeOf, countOf, pairAt, leftAt, rightAt, freeMark, isFree, treeAt}
 use Rattle.rule.specs.Sound.{Pool, Slot, Leads, nowhere, slot, Free, Chain, ends, next, lowLevels, allLevels, itself, Sound}
 use Rattle.rule.specs.Test.{isPool, slotFine, alone, fine, below, rootFine, freeFine, chainFine, restFine, isSound}
-use Rattle.rule.proofs.Tests.{on, both, and-true, either, all-three, all-four}
+use Rattle.rule.proofs.Tests.{on, both, and-true, all-three, all-four}
 use Rattle.rule.proofs.Order.{beats-true, true-beats}
 use Rattle.rule.proofs.Trees.{all-map, well-in, New, under-new, tops-of}
 use Rattle.rule.proofs.Clauses.{well-fork, well-of, stripes-of, ordered-of}

@@ -1,15 +1,13 @@
 -- A fresh pool is sound and stores nothing. Each law goes along the slots, with the cells before a slot split off.
-use Prim.Native.Nat.{ℕ, zero, suc, _+_, _*_, _-_, _/_, _≤_, _<_}
+use Prim.Native.Nat.{ℕ, zero, suc, _+_, _*_, _-_, _≤_}
 use mathlib.Core.Path.{_≡_, refl, sym, ap, _∙_}
-use mathlib.Core.Bool.{true}
 use mathlib.Core.List.{List, [], _∷_, _++_, append-assoc}
 use native.Mathlib.Omega.{arith}
 use lib.ListN.{length, getD, set, length-append}
 use lib.Seq.{getD-append-add}
-use Rattle.rule.specs.declared.Pair.{Pair}
 use Rattle.rule.specs.Tree.{none}
-use Rattle.rule.specs.Cells.{perSlot, slotsOf, pairAt, leftAt, rightAt, freeMark, storedFrom, stored, freeSlots, fresh, putFree, putHeader}
-use Rattle.rule.specs.Sound.{Pool, Slot, nowhere, Free, Chain, ends, next, Sound}
+use Rattle.rule.specs.Cells.{perSlot, slotsOf, rightAt, freeMark, storedFrom, stored, freeSlots, fresh, putFree, putHeader}
+use Rattle.rule.specs.Sound.{nowhere, Free, Chain, ends, next, Sound}
 use Rattle.rule.proofs.Decided.{true-free}
 
 -- reading and writing past a front

@@ -1,16 +1,14 @@
 -- In a well-formed tree x is met by halving exactly where it is a member's.
 use Prim.Native.Nat.{ℕ}
-use mathlib.Core.Path.{_≡_, refl, sym, _∙_}
-use mathlib.Core.Logic.{_≢_}
-use mathlib.Core.Bool.{Bool, true, false, cond, _||_}
+use mathlib.Core.Path.{_≡_, refl, sym}
+use mathlib.Core.Bool.{Bool, true, false, cond}
 use native.Mathlib.Omega.{arith}
-use lib.Dec.{ltb, eqb}
-use borrow.Author.Tests.{eq-eqb, ne-eqb, lt-ltb, le-ltb, ltb-true, ltb-false}
+use lib.Dec.{ltb}
+use borrow.Author.Tests.{eq-eqb, ne-eqb, lt-ltb, le-ltb}
 use Rattle.rule.specs.declared.Pair.{Pair}
 use Rattle.rule.specs.Stripe.{Stripe, middle, leftPart, rightPart}
-use Rattle.rule.specs.Tree.{Tree, none, fork, All, Mem, here, in-left, in-right, Well}
+use Rattle.rule.specs.Tree.{Tree, none, fork, Mem, here, in-left, in-right, Well}
 use Rattle.rule.specs.Changes.{met}
-use Rattle.rule.proofs.Tests.{on}
 use Rattle.rule.proofs.Trees.{all-map, all-at, all-mem, well-in, New}
 
 module _ {A : Type 0} (key : A → Pair) where

@@ -1,14 +1,14 @@
 -- The tests on a plain list, and membership.
 use Prim.Native.Nat.{ℕ}
 use mathlib.Core.Path.{_≡_, refl, sym, ap, _∙_}
-use mathlib.Core.Logic.{_⊎_, inl, inr, ⊎-elim}
+use mathlib.Core.Logic.{_⊎_, ⊎-elim}
 use mathlib.Core.Bool.{Bool, true, false, _&&_, _||_}
 use mathlib.Core.List.{List, [], _∷_, List·Memᴰ, List·Memᴰ·head, List·Memᴰ·tail}
 use lib.Dec.{eqb}
 use borrow.Author.Tests.{eq-eqb, eqb-true}
 use Rattle.rule.specs.declared.Pair.{Pair}
 use Rattle.rule.specs.Plain.{hasX, has}
-use Rattle.rule.proofs.Tests.{on, both, either, clash}
+use Rattle.rule.proofs.Tests.{both, either, clash}
 use Rattle.rule.proofs.Order.{pair-ext}
 
 or-true : (a b : Bool) → b ≡ true → (a || b) ≡ true

@@ -1,7 +1,7 @@
 -- The tree that a link leads to is the one that is read from the cells, and no other.
-use Prim.Native.Nat.{ℕ, zero, suc, _+_, _*_, _-_, _^_, _≤_, _<_}
-use mathlib.Core.Path.{_≡_, refl, sym, ap, _∙_}
-use mathlib.Core.Bool.{Bool, true, false, cond}
+use Prim.Native.Nat.{ℕ, zero, suc, _-_, _^_, _<_}
+use mathlib.Core.Path.{_≡_, refl, _∙_}
+use mathlib.Core.Bool.{Bool, true, false}
 use mathlib.Core.List.{List}
 use native.Mathlib.Omega.{arith}
 use native.Mathlib.Nat.{pow-suc}
@@ -10,7 +10,7 @@ use borrow.Author.Tests.{eq-eqb, ne-eqb}
 use Rattle.rule.specs.declared.Pair.{Pair}
 use Rattle.rule.specs.Tree.{Tree, none, fork, size, Within}
 use Rattle.rule.specs.Cells.{Fits, pairAt, leftAt, rightAt, sonAt, treeAt}
-use Rattle.rule.specs.Sound.{Slot, Leads, nowhere, slot}
+use Rattle.rule.specs.Sound.{Leads, nowhere, slot}
 use Rattle.rule.proofs.Tests.{on}
 
 -- the code's `n - 1` and the definitions' `suc`

@@ -1,5 +1,5 @@
 -- The five numbers of each case of an answer, as 01's table of codes has them.
-use Prim.Native.Nat.{ℕ, _+_, _*_, _≤_}
+use Prim.Native.Nat.{ℕ, _≤_}
 use mathlib.Core.Path.{_≡_, refl}
 use mathlib.Core.Bool.{Bool, true, false}
 use native.Mathlib.Omega.{arith}
@@ -7,7 +7,7 @@ use Rattle.rule.specs.declared.Pair.{Pair}
 use Rattle.rule.specs.declared.Outcome.{Outcome}
 use Rattle.rule.specs.declared.Outcome.the-variants.{Found, Nothing, Listed, Refused}
 use Rattle.rule.specs.declared.Answer.{Answer}
-use Rattle.rule.specs.Answer.{Five, numbersOf, five, finished, refused}
+use Rattle.rule.specs.Answer.{numbersOf, five, finished, refused}
 
 -- law: a found pair
 pub found-numbers : (p : Pair) (v : ℕ) → five (record { outcome = Found p; visits = v }) ≡ record { code = 0; x = p .x; y = p .y; count = 0; visits = v }

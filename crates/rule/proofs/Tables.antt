@@ -1,7 +1,7 @@
 -- A table of refusals, a line at a time.
 use Prim.Native.Nat.{ℕ}
 use mathlib.Core.Path.{_≡_, refl}
-use mathlib.Core.Bool.{Bool, true, false}
+use mathlib.Core.Bool.{true, false}
 use mathlib.Core.List.{List, [], _∷_}
 use Rattle.rule.specs.declared.Answer.{Answer}
 use Rattle.rule.specs.Answer.{refused}

@@ -7,9 +7,9 @@ use native.Mathlib.Omega.{arith}
 use borrow.Author.Tests.{eq-eqb, ne-eqb, lt-ltb, le-ltb}
 use Rattle.rule.specs.declared.Pair.{Pair}
 use Rattle.rule.specs.Pairs.{Beats, beats}
-use Rattle.rule.specs.Stripe.{Stripe, In, middle, leftPart, rightPart}
+use Rattle.rule.specs.Stripe.{Stripe, middle, leftPart, rightPart}
 use Rattle.rule.specs.Tree.{Tree, none, fork, All, Mem, here, in-left, in-right, Tops, free, over, Under, Well}
-use Rattle.rule.specs.Changes.{Cut, fill, takeOut}
+use Rattle.rule.specs.Changes.{fill, takeOut}
 use Rattle.rule.proofs.Tests.{on}
 use Rattle.rule.proofs.Order.{beats-true, true-beats, false-beats, beats-false, beats-trans}
 use Rattle.rule.proofs.Trees.{all-map, all-and, all-at, all-mem, well-in, New, under-new}

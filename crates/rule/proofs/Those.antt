@@ -2,12 +2,12 @@
 use Prim.Native.Nat.{ℕ}
 use mathlib.Core.Path.{_≡_, refl, sym, ap, _∙_}
 use mathlib.Core.Logic.{_↔_, ⊎-elim}
-use mathlib.Core.Bool.{Bool, true, false}
+use mathlib.Core.Bool.{Bool, true}
 use mathlib.Core.List.{List, [], _∷_, map, List·Memᴰ, List·Memᴰ·head, List·Memᴰ·tail, List·Memᴰ·cases-cons}
 use Rattle.rule.specs.declared.Pair.{Pair}
 use Rattle.rule.specs.Plain.{those}
 use Rattle.rule.specs.Tree.{Differs, Apart}
-use Rattle.rule.proofs.Tests.{on, clash}
+use Rattle.rule.proofs.Tests.{on}
 
 pub those-all : (ps : List Pair) → those (λ q. true) ps ≡ ps
 those-all [] = refl

@@ -1,6 +1,6 @@
 -- What holds of all members of a tree, and what a well-formed tree keeps where. `A` is what a slot holds, and `key` gives its pair.
-use Prim.Native.Nat.{ℕ, _≤_, _<_}
-use mathlib.Core.Path.{_≡_, refl, sym, subst}
+use Prim.Native.Nat.{ℕ}
+use mathlib.Core.Path.{refl, sym, subst}
 use mathlib.Core.Logic.{_≢_}
 use native.Mathlib.Omega.{arith}
 use Rattle.rule.specs.declared.Pair.{Pair}

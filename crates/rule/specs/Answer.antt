@@ -1,7 +1,6 @@
 -- The five numbers of an answer, for each of its cases.
 use Prim.Native.Nat.{ℕ}
 use mathlib.Core.Bool.{true, false}
-use Rattle.rule.specs.declared.Pair.{Pair}
 use Rattle.rule.specs.declared.Outcome.{Outcome}
 use Rattle.rule.specs.declared.Outcome.the-variants.{Found, Nothing, Listed, Refused}
 use Rattle.rule.specs.declared.Answer.{Answer}

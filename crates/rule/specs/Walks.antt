@@ -9,7 +9,6 @@ use Rattle.rule.specs.declared.Limits.{Limits}
 use Rattle.rule.specs.declared.Finding.{Finding}
 use Rattle.rule.specs.declared.Finding.the-variants.{Found, Nothing}
 use Rattle.rule.specs.declared.Walked.{Walked}
-use Rattle.rule.specs.Pairs.{beats}
 use Rattle.rule.specs.Plain.{inRange, matches, own, closest, smaller, larger}
 use Rattle.rule.specs.Stripe.{Stripe, middle, leftPart, rightPart}
 use Rattle.rule.specs.Tree.{Tree, none, fork}

@@ -1,22 +1,19 @@
 -- The tree part of the check, one step at a time, as the code takes it.
-use Prim.Native.Nat.{ℕ, zero, suc, _+_, _*_, _-_, _/_, _^_, _≤_, _<_}
+use Prim.Native.Nat.{ℕ, zero, suc, _+_, _-_, _≤_, _<_}
 use mathlib.Core.Path.{_≡_, refl, sym, ap, _∙_}
-use mathlib.Core.Bool.{Bool, true, false, cond, not, _&&_}
+use mathlib.Core.Bool.{Bool, true, false, cond, not}
 use mathlib.Core.List.{List}
 use native.Mathlib.Omega.{arith}
 use lib.Pow.{pow-mono}
-use lib.Dec.{ltb, leb, eqb}
-use lib.ListN.{length}
-use borrow.Author.Tests.{eq-eqb, ne-eqb, leb-true, not-false}
+use lib.Dec.{ltb}
+use borrow.Author.Tests.{eq-eqb, ne-eqb}
 use Rattle.rule.specs.declared.Pair.{Pair}
 use Rattle.rule.specs.Pairs.{beats}
-use Rattle.rule.specs.Stripe.{Stripe, Low, holds, middle, leftPart, rightPart}
-use Rattle.rule.specs.Tree.{none, size}
+use Rattle.rule.specs.Stripe.{Stripe, Low, middle, leftPart, rightPart}
+use Rattle.rule.specs.Tree.{size}
 use Rattle.rule.specs.Changes.{met}
-use Rattle.rule.specs.Cells.{slotsOf, Fits, pairAt, leftAt, rightAt, treeAt}
-use Rattle.rule.specs.Sound.{itself, Leads}
+use Rattle.rule.specs.Cells.{Fits, pairAt, leftAt, rightAt, treeAt}
 use Rattle.rule.specs.Test.{slotFine, alone, fine, below}
-use Rattle.rule.proofs.Tests.{both, and-false}
 use Rattle.rule.proofs.Leads.{back, tree-none, tree-fork, few}
 use Rattle.rule.proofs.Decided.{fine-true}
 use Rattle.halving.specs.Sought.{Sought}

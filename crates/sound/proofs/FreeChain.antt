@@ -1,5 +1,5 @@
 -- The free chain's part of the check, one step at a time, as the code takes it.
-use Prim.Native.Nat.{ℕ, zero, suc, _+_, _*_, _-_, _/_, _≤_, _<_}
+use Prim.Native.Nat.{ℕ, suc, _-_, _/_, _≤_, _<_}
 use mathlib.Core.Path.{_≡_, refl, sym, _∙_}
 use mathlib.Core.Bool.{Bool, true, false, _&&_}
 use mathlib.Core.List.{List}
@@ -9,7 +9,6 @@ use lib.ListN.{length}
 use borrow.Author.Tests.{eq-eqb, ne-eqb, le-leb, lt-leb, leb-true}
 use Rattle.rule.specs.declared.Pair.{Pair}
 use Rattle.rule.specs.Cells.{perSlot, slotsOf, freeOf, countOf, Fits, pairAt, leftAt, rightAt, freeMark, isFree}
-use Rattle.rule.specs.Sound.{Pool}
 use Rattle.rule.specs.Test.{freeFine, chainFine}
 use Rattle.rule.proofs.Tests.{all-three, and-false}
 use Rattle.rule.proofs.Leads.{back}

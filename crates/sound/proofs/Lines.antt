@@ -1,14 +1,12 @@
 -- The first two lines of every call's table, by the verdict on its pool.
 use Prim.Native.Nat.{ℕ}
-use mathlib.Core.Path.{_≡_, refl, sym, _∙_}
-use mathlib.Core.Bool.{Bool, true, false}
+use mathlib.Core.Path.{_≡_, refl}
 use mathlib.Core.List.{List, _∷_}
 use Rattle.rule.specs.declared.Answer.{Answer}
 use Rattle.rule.specs.Answer.{refused}
 use Rattle.rule.specs.Codes.{wrongLength, unsound}
 use Rattle.rule.specs.Refusals.{Line, answerBy, Left, leftBy, Leaves}
 use Rattle.rule.specs.Sound.{Sound}
-use Rattle.rule.specs.Test.{isPool, isSound}
 use Rattle.rule.proofs.Decided.{true-pool, test-sound, sound-test}
 use Rattle.sound.specs.declared.Health.{Health}
 use Rattle.sound.specs.declared.Health.the-variants.{Sound as well, Unsound as ill, WrongLength as odd}

@@ -1,24 +1,22 @@
 -- The parts of the check put together.
-use Prim.Native.Nat.{ℕ, zero, suc, _+_, _≤_}
-use mathlib.Core.Path.{_≡_, refl, sym, ap, _∙_}
-use mathlib.Core.Bool.{Bool, true, false, cond, not, _&&_}
+use Prim.Native.Nat.{ℕ}
+use mathlib.Core.Path.{_≡_, refl, sym, _∙_}
+use mathlib.Core.Bool.{Bool, true, false, _&&_}
 use mathlib.Core.List.{List}
-use native.Mathlib.Omega.{arith}
-use lib.Dec.{leb, eqb}
+use lib.Dec.{eqb}
 use borrow.Author.Tests.{eq-eqb, ne-eqb}
 use Rattle.rule.specs.Stripe.{Stripe, rootStripe}
 use Rattle.rule.specs.Tree.{size}
-use Rattle.rule.specs.Cells.{slotsOf, markOf, rootOf, freeOf, countOf, treeAt}
+use Rattle.rule.specs.Cells.{markOf, rootOf, treeAt}
 use Rattle.rule.specs.Sound.{Pool, lowLevels, allLevels}
-use Rattle.rule.specs.Test.{isPool, slotFine, below, rootFine, restFine, isSound}
-use Rattle.rule.proofs.Tests.{and-false}
+use Rattle.rule.specs.Test.{slotFine, rootFine, restFine, isSound}
 use Rattle.rule.proofs.Leads.{tree-none, tree-fork}
 use Rattle.rule.proofs.Decided.{true-pool}
 use Rattle.sound.specs.declared.tree.Checked.{Checked}
 use Rattle.sound.specs.declared.tree.Checked.the-variants.{Counted, Faulty}
 use Rattle.sound.specs.declared.chain.Verdict.{Verdict}
 use Rattle.sound.specs.declared.chain.Verdict.the-variants.{Sound, Faulty as Unsound}
-use Rattle.sound.specs.Checked.{counted, fromSlot, fromRoot, verdict, restVerdict}
+use Rattle.sound.specs.Checked.{fromSlot, fromRoot, verdict, restVerdict}
 use Rattle.sound.proofs.Counting.{was-counted, was-faulty}
 
 module _ (c : List ℕ) (root : ℕ) (er : root ≡ rootOf c) where

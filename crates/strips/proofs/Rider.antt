@@ -1,7 +1,7 @@
 -- What the strip questions answer, in a rider's words.
-use Prim.Native.Nat.{ℕ, _+_, _*_, _/_, _%_, _≤_, _<_}
-use mathlib.Core.Path.{_≡_, refl, sym, ap, _∙_}
-use mathlib.Core.Logic.{_↔_, _⊎_}
+use Prim.Native.Nat.{ℕ, _+_, _*_, _≤_, _<_}
+use mathlib.Core.Path.{_≡_, refl}
+use mathlib.Core.Logic.{_↔_}
 use mathlib.Core.Bool.{Bool, true, false, _||_}
 use mathlib.Core.List.{List, List·Memᴰ}
 use native.Mathlib.Omega.{arith}
@@ -13,20 +13,20 @@ use Rattle.rule.specs.declared.Limits.{Limits}
 use Rattle.rule.specs.declared.Outcome.the-variants.{Found, Nothing}
 use Rattle.rule.specs.declared.Pair.{Pair}
 use Rattle.rule.specs.Cells.{stored}
-use Rattle.rule.specs.Pairs.{beats, Beats, lower, level}
-use Rattle.rule.specs.Plain.{inRange, matches, smallestXOf, largestXOf, smallestYOf}
+use Rattle.rule.specs.Pairs.{beats, lower}
+use Rattle.rule.specs.Plain.{matches, smallestXOf, largestXOf, smallestYOf}
 use Rattle.rule.specs.Refusals.{answerBy, Left}
 use Rattle.rule.specs.Sound.{Sound}
 use Rattle.rule.proofs.Tests.{on, clash, neither}
 use Rattle.rule.proofs.Decided.{true-pool, sound-test}
-use Rattle.rule.proofs.Order.{true-beats, beats-true}
+use Rattle.rule.proofs.Order.{true-beats}
 use Rattle.rule.proofs.Scan.{Closest, NoMatch, smallestXOf-found, smallestXOf-nothing, largestXOf-found, largestXOf-nothing, smallestYOf-found, smallestYOf-nothing}
 use Rattle.rule.proofs.Stored.{stored-mem, stored-apart}
 use Rattle.rule.proofs.TakenBack.{member-low}
 use Rattle.pool.specs.Asking.{outcomeOf, listingLeft}
 use Rattle.pool.specs.Showing.{Shows}
 use Rattle.pool.proofs.Questions.{listing-shows}
-use Rattle.strips.specs.Strips.{startOf, endOf, numberOf, Covers, Meets, Contains, over, coversLimits, lastLimits, meetsLimits, containsLimits}
+use Rattle.strips.specs.Strips.{startOf, endOf, Covers, Meets, Contains, over, coversLimits, lastLimits, meetsLimits, containsLimits}
 use Rattle.strips.specs.Promises.{firstToEnd, lastToEnd, earliestStart, listCovers, listMeets, listContains}
 use Rattle.strips.specs.Riding.{Ahead, Behind, Unbeaten, CoversBy, EndsIn, CoversSome, CoversAll, Drawn, None}
 use Rattle.strips.proofs.Limits.{covers-limits, meets-limits, contains-limits, last-limits, ends-limits}

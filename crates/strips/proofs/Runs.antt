@@ -1,30 +1,26 @@
 -- Strip calls over runs: each is a call of the pool or a refusal that changes nothing, so the pool's laws carry over.
-use Prim.Native.Nat.{ℕ, _+_, _*_, _≤_, _<_}
-use mathlib.Core.Path.{_≡_, refl, sym, ap, _∙_}
-use mathlib.Core.Logic.{_≢_}
+use Prim.Native.Nat.{ℕ, _+_, _*_, _<_}
+use mathlib.Core.Path.{_≡_, refl, sym, ap}
 use mathlib.Core.Bool.{Bool, true, false, _||_}
 use mathlib.Core.List.{List, [], _∷_}
 use native.Mathlib.Omega.{arith}
 use lib.Dec.{ltb}
 use borrow.Author.Tests.{ltb-false}
-use Rattle.rule.specs.declared.Answer.{Answer}
 use Rattle.rule.specs.Answer.{five, numbersOf, finished}
-use Rattle.rule.specs.Refusals.{Line, answerBy, Left, leftBy}
-use Rattle.rule.specs.Sound.{Sound}
+use Rattle.rule.specs.Refusals.{Line, answerBy, leftBy}
 use Rattle.rule.specs.Test.{isPool, isSound}
-use Rattle.rule.proofs.Tests.{on, clash, neither}
+use Rattle.rule.proofs.Tests.{on, clash}
 use Rattle.rule.proofs.Decided.{true-pool, sound-test}
-use Rattle.sound.specs.Promises.{lengthLine, soundLine}
-use Rattle.pool.specs.Asking.{smallestXAnswer, largestXAnswer, smallestYAnswer, listingLeft}
+use Rattle.pool.specs.Asking.{smallestXAnswer, largestXAnswer, smallestYAnswer}
 use Rattle.pool.specs.Changing.{insertion, deletion}
 use Rattle.rule.specs.declared.Outcome.the-variants.{Refused}
-use Rattle.pool.specs.Playing.{Call, play, Book, Kept, Played, changed, kept, plainly, SmallX}
+use Rattle.pool.specs.Playing.{Call, play, Book, kept, plainly, SmallX}
 use Rattle.pool.specs.TakingBack.{accepted, insert, delete, Each, TakenBack}
 use Rattle.pool.proofs.Played.{Same, Ends, plays}
 use Rattle.pool.proofs.TakenBack.{back, same, does, back-exact}
 use Rattle.strips.specs.Strips.{stripPair, over, noStrip, coversLimits, lastLimits}
 use Rattle.strips.specs.Promises.{stripLine, orderLine, opening, closing, firstToEnd, lastToEnd, earliestStart, listCovers, listMeets, listContains}
-use Rattle.strips.specs.Runs.{Named, StripChange, opened, closed, performStrip, reverseStrip, DoesStrip, StripCall, opens, closes, first, last, earliest, covers, meets, contains, playStrip, ownLines, callOf, plainBy, plainlyStrip, StripRun, playStrips, StripTold, plainlyStrips}
+use Rattle.strips.specs.Runs.{Named, StripChange, opened, closed, performStrip, reverseStrip, DoesStrip, StripCall, opens, closes, first, last, earliest, covers, meets, contains, playStrip, callOf, plainBy, plainlyStrip, StripRun, playStrips, StripTold, plainlyStrips}
 use Rattle.strips.proofs.Tabled.{opening-passed, closing-passed, strip-fits, first-asked, last-asked, earliest-asked, covers-is, meets-is, contains-is}
 
 -- a strip's x is of 32 bits

@@ -2,7 +2,6 @@
 use super::shape;
 use rule::Answer;
 use rule::codes;
-ghost use mathlib.Core.Path.{_≡_};
 ghost use Rattle.rule.specs.Refusals.{Leaves};
 ghost use Rattle.strips.specs.Promises.{listCovers, listMeets, listContains};
 

@@ -7,7 +7,6 @@ use Rattle.rule.specs.Shape.{stripeOf}
 use Rattle.rule.specs.Sound.{itself}
 use Rattle.halving.specs.Sought.{Sought}
 use Rattle.halving.proofs.Searching.{ends-here, there, deep, hit, goes-on, sought-on}
-use borrow.Author.Needs.{needs}
 use Rattle.halving.proofs.met.Statement.{statement}
 use Rattle.halving.proofs.met.Tie as tie
 

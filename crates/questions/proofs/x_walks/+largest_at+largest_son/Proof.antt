@@ -5,7 +5,6 @@ use Rattle.rule.specs.Walks.{largestX}
 use Rattle.questions.proofs.Places.{there, one-more, asked-left, asked-right, deep, asked-here}
 use Rattle.questions.proofs.LargestX.{largest-stop, largest-right, largest-room, largest-left, largest-empty}
 use Rattle.questions.proofs.XWalks.{none-there, unasked, asked}
-use borrow.Author.Needs.{needs}
 use borrow.Fn.Kinds.{In}
 use borrow.Fn.PlainCycle.{Measures, is, falls, and}
 use Rattle.questions.proofs.x_walks.largest_at.Reads as largest-at

@@ -5,7 +5,6 @@ use native.Mathlib.Omega.{arith}
 use Rattle.questions.proofs.Places.{there, one-more, asked-left, asked-right, deep, asked-here}
 use Rattle.questions.proofs.SmallestX.{smallest-stop, smallest-left, smallest-room, smallest-right, smallest-empty}
 use Rattle.questions.proofs.XWalks.{none-there, unasked, asked}
-use borrow.Author.Needs.{needs}
 use borrow.Fn.Kinds.{In}
 use borrow.Fn.PlainCycle.{Measures, is, falls, and}
 use Rattle.questions.proofs.x_walks.smallest_at.Reads as smallest-at

@@ -1,5 +1,4 @@
 -- A slot tests its sons' places, and a place that holds a slot with sons goes on there with a level less.
-use mathlib.Core.Path.{_∙_}
 use Prim.Native.Nat.{ℕ, _+_, _*_, _<_}
 use native.Mathlib.Omega.{arith}
 use Rattle.rule.proofs.Stripes.{low-left, low-right}
