@@ -1,30 +1,20 @@
 -- Bytes stored one after the other from a place on: words, pairs, the whole book.
 use Prim.Native.Nat.{ℕ, suc, _+_, _*_, _/_, _%_, _≤_}
-use mathlib.Core.Path.{_≡_, refl, sym, ap, _∙_}
+use mathlib.Core.Path.{_≡_, refl, sym, _∙_}
 use mathlib.Core.List.{List, [], _∷_, _++_}
 use native.Mathlib.Omega.{arith}
 use lib.ListN.{length, set, drop}
-use lib.Seq.{length-sets, sets-eq}
 use Rattle.rule.specs.declared.Pair.{Pair}
+use Rattle.rule.specs.Placed.{placed}
+use Rattle.rule.proofs.Placing.{placed-append, placed-start}
 use Rattle.book.specs.Book.{word, byX, body, bytesFor, bookOf}
-use Rattle.book.specs.Writing.{written, headBytes, headerOf}
+use Rattle.book.specs.Writing.{headBytes, headerOf}
 use Rattle.book.proofs.Ascending.{length-byX}
-
-pub length-written : (o : List ℕ) (at : ℕ) (vs : List ℕ) → length (written o at vs) ≡ length o
-unfolding written
-length-written o at vs = length-sets o at vs
-
-written-append : (o : List ℕ) (at : ℕ) (vs ws : List ℕ) → written o at (vs ++ ws) ≡ written (written o at vs) (at + length vs) ws
-unfolding written
-written-append o at [] ws = let z : at + 0 ≡ at = omega arith in rw z
-written-append o at (v ∷ vs) ws =
-    let z : at + suc (length vs) ≡ suc at + length vs = omega arith in
-    rw z (written-append (set o at v) (suc at) vs ws)
 
 -- law: four bytes are a word
 pub one-word : (o : List ℕ) (at n : ℕ)
-    → set (set (set (set o at (n / 16777216 % 256)) (at + 1) (n / 65536 % 256)) (at + 2) (n / 256 % 256)) (at + 3) (n % 256) ≡ written o at (word n)
-unfolding written
+    → set (set (set (set o at (n / 16777216 % 256)) (at + 1) (n / 65536 % 256)) (at + 2) (n / 256 % 256)) (at + 3) (n % 256) ≡ placed o at (word n)
+unfolding placed
 one-word o at n =
     let a : at + 1 ≡ suc at = omega arith in
     let b : at + 2 ≡ suc (suc at) = omega arith in
@@ -32,30 +22,29 @@ one-word o at n =
     rw (a, b, d)
 
 -- law: a word and the version are the header
-pub one-head : (o o1 : List ℕ) (n : ℕ) → o1 ≡ written o 0 (word (1 + 8 * n)) → set o1 4 1 ≡ written o 0 (headerOf n)
-unfolding written
+pub one-head : (o o1 : List ℕ) (n : ℕ) → o1 ≡ placed o 0 (word (1 + 8 * n)) → set o1 4 1 ≡ placed o 0 (headerOf n)
+unfolding placed
 one-head o o1 n e = rw e
 
 -- law: two words are a pair
-pub one-pair : (o o1 o2 : List ℕ) (at x y : ℕ) → o1 ≡ written o at (word x) → o2 ≡ written o1 (at + 4) (word y) → o2 ≡ written o at (word x ++ word y)
-one-pair o o1 o2 at x y e f = rw (f, e) (sym (written-append o at (word x) (word y)))
+pub one-pair : (o o1 o2 : List ℕ) (at x y : ℕ) → o1 ≡ placed o at (word x) → o2 ≡ placed o1 (at + 4) (word y) → o2 ≡ placed o at (word x ++ word y)
+one-pair o o1 o2 at x y e f = rw (f, e) (sym (placed-append o at (word x) (word y)))
 
 -- law: a pair and the rest of the body
-pub pair-first : (o o1 : List ℕ) (at : ℕ) (p : Pair) (ps : List Pair) → o1 ≡ written o at (word (p .x) ++ word (p .y))
-    → written o1 (at + 8) (body ps) ≡ written o at (body (p ∷ ps))
-pair-first o o1 at p ps e = rw e (sym (written-append o at (word (p .x) ++ word (p .y)) (body ps)))
+pub pair-first : (o o1 : List ℕ) (at : ℕ) (p : Pair) (ps : List Pair) → o1 ≡ placed o at (word (p .x) ++ word (p .y))
+    → placed o1 (at + 8) (body ps) ≡ placed o at (body (p ∷ ps))
+pair-first o o1 at p ps e = rw e (sym (placed-append o at (word (p .x) ++ word (p .y)) (body ps)))
 
 length-body : (ps : List Pair) → length (body ps) ≡ 8 * length ps
 length-body [] = refl
 length-body (p ∷ ps) = let h = length-body ps in omega arith
 
 -- law: the header and the body are the book, and bytes beyond it stay
-pub whole-book : (o o1 o2 : List ℕ) (ps : List Pair) (n : ℕ) → n ≡ length ps → bytesFor n ≤ length o → o1 ≡ written o 0 (headerOf n)
-    → o2 ≡ written o1 headBytes (body (byX ps)) → o2 ≡ bookOf ps ++ drop (length (bookOf ps)) o
-unfolding written bookOf
+pub whole-book : (o o1 o2 : List ℕ) (ps : List Pair) (n : ℕ) → n ≡ length ps → bytesFor n ≤ length o → o1 ≡ placed o 0 (headerOf n)
+    → o2 ≡ placed o1 headBytes (body (byX ps)) → o2 ≡ bookOf ps ++ drop (length (bookOf ps)) o
+unfolding bookOf
 whole-book o o1 o2 ps n en h e f =
     let B = headerOf n ++ body (byX ps) in
     let l = length-body (byX ps) in
     let k = length-byX ps in
-    let z : 0 + length B ≡ length B = omega arith in
-    rw (← en) (rw (f, e) (sym (written-append o 0 (headerOf n) (body (byX ps))) ∙ sets-eq B o 0 (omega arith) ∙ ap (λ k. B ++ drop k o) z))
+    rw (← en) (rw (f, e) (sym (placed-append o 0 (headerOf n) (body (byX ps))) ∙ placed-start o B (omega arith)))

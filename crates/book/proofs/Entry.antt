@@ -9,15 +9,17 @@ use Rattle.rule.specs.declared.Answer.{Answer}
 use Rattle.rule.specs.Answer.{finished, refused}
 use Rattle.rule.specs.Cells.{countOf, stored}
 use Rattle.rule.specs.Codes as codes
+use Rattle.rule.specs.Placed.{placed}
 use Rattle.rule.specs.Refusals.{Leaves}
 use Rattle.rule.specs.Sound.{Sound}
+use Rattle.rule.proofs.Placing.{length-placed}
 use Rattle.rule.proofs.Stored.{stored-count}
 use Rattle.rule.proofs.Tables.{left-refused, left-passed, left-none}
 use Rattle.sound.proofs.Lines.{left-well}
 use Rattle.book.specs.Book.{byX, body, bytesFor}
 use Rattle.book.specs.Promises.{shortLine, saved}
-use Rattle.book.specs.Writing.{written, headBytes, headerOf}
-use Rattle.book.proofs.Bytes.{length-written, whole-book}
+use Rattle.book.specs.Writing.{headBytes, headerOf}
+use Rattle.book.proofs.Bytes.{whole-book}
 
 module _ (c o : List ℕ) (S : Sound c) (n : ℕ) (en : n ≡ countOf c) where
   as-stored : n ≡ length (stored c)
@@ -30,16 +32,16 @@ module _ (c o : List ℕ) (S : Sound c) (n : ℕ) (en : n ≡ countOf c) where
       let z = as-stored in
       rw (left-well S (shortLine c o ∷ []) o _) (left-refused (shortLine c o) [] o _ (lt-ltb (length o) (bytesFor (length (stored c))) (omega arith)) e)
 
-  module _ (h : headBytes + 8 * n ≤ length o) (o1 : List ℕ) (e1 : o1 ≡ written o 0 (headerOf n)) where
+  module _ (h : headBytes + 8 * n ≤ length o) (o1 : List ℕ) (e1 : o1 ≡ placed o 0 (headerOf n)) where
     -- law: behind the header there is room for the pairs
     pub still-room : bytesFor (length (stored c)) ≤ length o1
     still-room =
         let z = as-stored in
-        let l : length o1 ≡ length o = rw e1 (length-written o 0 (headerOf n)) in
+        let l : length o1 ≡ length o = rw e1 (length-placed o 0 (headerOf n)) in
         omega arith
 
     -- law: the header and the pairs are the book
-    pub all-saved : (o2 : List ℕ) {r : Answer} → o2 ≡ written o1 headBytes (body (byX (stored c))) → r ≡ finished → Leaves (saved c o) o2 r
+    pub all-saved : (o2 : List ℕ) {r : Answer} → o2 ≡ placed o1 headBytes (body (byX (stored c))) → r ≡ finished → Leaves (saved c o) o2 r
     unfolding saved
     all-saved o2 e2 e =
         let z = as-stored in

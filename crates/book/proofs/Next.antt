@@ -14,19 +14,21 @@ use Rattle.rule.specs.declared.Finding.the-variants.{Found, Nothing}
 use Rattle.rule.specs.declared.Pair.{Pair}
 use Rattle.rule.specs.declared.Walked.{Walked}
 use Rattle.rule.specs.Cells.{perSlot, isFree, rootOf, storedFrom, stored, treeAt}
+use Rattle.rule.specs.Placed.{placed}
 use Rattle.rule.specs.Plain.{limits, matches, smaller, smallestXOf}
 use Rattle.rule.specs.Sound.{Sound, allLevels}
 use Rattle.rule.specs.Stripe.{rootStripe}
 use Rattle.rule.specs.Walks.{smallestX}
 use Rattle.rule.proofs.AnyOrder.{smallestX-any}
 use Rattle.rule.proofs.Decided.{sound-well, sound-tree}
+use Rattle.rule.proofs.Placing.{length-placed}
 use Rattle.rule.proofs.Scan.{Closest, smallestXOf-found, smallestXOf-nothing}
 use Rattle.rule.proofs.Stored.{stored-mem, stored-apart}
 use Rattle.rule.proofs.Tests.{on, clash, both, and-true}
 use Rattle.book.specs.Book.{word, byX, body, bytesFor}
-use Rattle.book.specs.Writing.{written, headBytes}
+use Rattle.book.specs.Writing.{headBytes}
 use Rattle.book.proofs.Ascending.{atLeast, byX-first, byX-all, length-byX}
-use Rattle.book.proofs.Bytes.{length-written, pair-first}
+use Rattle.book.proofs.Bytes.{pair-first}
 
 -- the stored pairs with x0 ≤ x, by ascending x
 unfoldable pub toWrite : List ℕ → ℕ → List Pair
@@ -98,7 +100,7 @@ module _ (c : List ℕ) (W : Words c) where
 pub record Turn (c o0 o : List ℕ) (at x0 : ℕ) : Type 0 where
   pub long : length o ≡ length o0
   pub room : at + 8 * length (toWrite c x0) ≤ length o
-  pub same : written o at (body (toWrite c x0)) ≡ written o0 headBytes (body (byX (stored c)))
+  pub same : placed o at (body (toWrite c x0)) ≡ placed o0 headBytes (body (byX (stored c)))
 
 module _ (c o : List ℕ) where
   -- law: before the first turn
@@ -111,16 +113,16 @@ module _ (c o : List ℕ) where
 
 module _ (c o0 o : List ℕ) (at x0 : ℕ) (T : Turn c o0 o at x0) where
   -- law: with nothing left, all is written
-  pub all-written : toWrite c x0 ≡ [] → o ≡ written o0 headBytes (body (byX (stored c)))
-  unfolding written
+  pub all-written : toWrite c x0 ≡ [] → o ≡ placed o0 headBytes (body (byX (stored c)))
+  unfolding placed
   all-written e = let s = T .same in rw e at s
 
   module _ (p : Pair) (ps : List Pair) (e : toWrite c x0 ≡ p ∷ ps) where
     pub room-here : at + 8 ≤ length o
     room-here = let r = T .room in let l = ap length e in omega arith
 
-    module _ (o1 : List ℕ) (e1 : o1 ≡ written o at (word (p .x) ++ word (p .y))) where
-      then-same : written o1 (at + 8) (body ps) ≡ written o0 headBytes (body (byX (stored c)))
+    module _ (o1 : List ℕ) (e1 : o1 ≡ placed o at (word (p .x) ++ word (p .y))) where
+      then-same : placed o1 (at + 8) (body ps) ≡ placed o0 headBytes (body (byX (stored c)))
       then-same = pair-first o o1 at p ps e1 ∙ (let s = T .same in rw e at s)
 
       -- law: after a pair the rest is left
@@ -129,10 +131,10 @@ module _ (c o0 o : List ℕ) (at x0 : ℕ) (T : Turn c o0 o at x0) where
           let r = T .room in
           let l = ap length e in
           let k = ap length f in
-          let n : length o1 ≡ length o = rw e1 (length-written o at (word (p .x) ++ word (p .y))) in
+          let n : length o1 ≡ length o = rw e1 (length-placed o at (word (p .x) ++ word (p .y))) in
           record { long = n ∙ T .long; room = omega arith; same = rw f then-same }
 
       -- law: after the last pair all is written
-      pub last-written : ps ≡ [] → o1 ≡ written o0 headBytes (body (byX (stored c)))
-      unfolding written
+      pub last-written : ps ≡ [] → o1 ≡ placed o0 headBytes (body (byX (stored c)))
+      unfolding placed
       last-written f = let s = then-same in rw f at s

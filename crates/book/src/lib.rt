@@ -9,11 +9,12 @@ ghost use mathlib.Core.List.{_++_};
 ghost use Prim.Native.Nat.{_+_, _*_, _≤_, _<_};
 ghost use lib.ListN.{length};
 ghost use Rattle.rule.specs.Cells.{stored};
+ghost use Rattle.rule.specs.Placed.{placed};
 ghost use Rattle.rule.specs.Refusals.{Leaves};
 ghost use Rattle.rule.specs.Sound.{Sound};
 ghost use Rattle.book.specs.Book.{word, body, byX, bytesFor};
 ghost use Rattle.book.specs.Promises.{saved};
-ghost use Rattle.book.specs.Writing.{written, headBytes, headerOf};
+ghost use Rattle.book.specs.Writing.{headBytes, headerOf};
 
 // The bytes of a number.
 const WORD: usize = 4;
@@ -32,7 +33,7 @@ const LAST: u32 = 4294967295;
 // A number as four bytes, the highest first.
 fn put_word(bytes: &mut [u8], at: usize, n: u32)
     requires { ⌜ at + 4 ≤ length (now bytes) ⌝ }
-    ensures { λ _. ⌜ now (bytes .exit) ≡ written (now (bytes .entry)) at (word n) ⌝ }
+    ensures { λ _. ⌜ now (bytes .exit) ≡ placed (now (bytes .entry)) at (word n) ⌝ }
 {
     bytes[at] = (n / 16777216 % 256) as u8;
     bytes[at + 1] = (n / 65536 % 256) as u8;
@@ -43,7 +44,7 @@ fn put_word(bytes: &mut [u8], at: usize, n: u32)
 // The number of bytes that follow, and the version.
 fn put_head(bytes: &mut [u8], count: u32)
     requires { ⌜ (headBytes ≤ length (now bytes)) × (1 + 8 * count < 4294967296) ⌝ }
-    ensures { λ _. ⌜ now (bytes .exit) ≡ written (now (bytes .entry)) 0 (headerOf count) ⌝ }
+    ensures { λ _. ⌜ now (bytes .exit) ≡ placed (now (bytes .entry)) 0 (headerOf count) ⌝ }
 {
     put_word(bytes, 0, 1 + PER_PAIR as u32 * count);
     bytes[WORD] = VERSION;
@@ -51,7 +52,7 @@ fn put_head(bytes: &mut [u8], count: u32)
 
 fn put_pair(bytes: &mut [u8], at: usize, p: Pair)
     requires { ⌜ at + 8 ≤ length (now bytes) ⌝ }
-    ensures { λ _. ⌜ now (bytes .exit) ≡ written (now (bytes .entry)) at (word (p .x) ++ word (p .y)) ⌝ }
+    ensures { λ _. ⌜ now (bytes .exit) ≡ placed (now (bytes .entry)) at (word (p .x) ++ word (p .y)) ⌝ }
 {
     put_word(bytes, at, p.x);
     put_word(bytes, at + WORD, p.y);
@@ -60,7 +61,7 @@ fn put_pair(bytes: &mut [u8], at: usize, p: Pair)
 // The stored pairs by ascending x: the next is the one with the smallest x above the last one's.
 fn put_pairs(pool: &[u32], bytes: &mut [u8])
     requires { ⌜ Sound (now pool) × (bytesFor (length (stored (now pool))) ≤ length (now bytes)) ⌝ }
-    ensures { λ _. ⌜ now (bytes .exit) ≡ written (now (bytes .entry)) headBytes (body (byX (stored (now (pool .entry))))) ⌝ }
+    ensures { λ _. ⌜ now (bytes .exit) ≡ placed (now (bytes .entry)) headBytes (body (byX (stored (now (pool .entry))))) ⌝ }
 {
     let mut at = HEAD;
     let mut x0: u32 = 0;

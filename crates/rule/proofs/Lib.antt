@@ -40,3 +40,4 @@ pub mod Sizes
 pub mod Meets
 pub mod Visits
 pub mod ListVisits
+pub mod Placing
