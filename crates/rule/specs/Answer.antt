@@ -4,14 +4,8 @@ use mathlib.Core.Bool.{true, false}
 use Rattle.rule.specs.declared.Outcome.{Outcome}
 use Rattle.rule.specs.declared.Outcome.the-variants.{Found, Nothing, Listed, Refused}
 use Rattle.rule.specs.declared.Answer.{Answer}
+use Rattle.rule.specs.declared.Five.{Five}
 use Rattle.rule.specs.Codes as codes
-
-pub record Five : Type 0 where
-  pub code : ℕ
-  pub x : ℕ
-  pub y : ℕ
-  pub count : ℕ
-  pub visits : ℕ
 
 -- only a found pair fills x and y; only a listing fills the count; a refusal has no visits
 unfoldable pub numbersOf : Outcome → ℕ → Five

@@ -1,6 +1,7 @@
 // The types that every crate shares. What they mean is in specs/.
 ghost use mathlib.Core.Path.{_≡_};
 ghost use lib.Dec.{ltb};
+ghost use Rattle.rule.specs.Answer.{five};
 ghost use Rattle.rule.specs.Pairs.{beats};
 ghost use Rattle.rule.specs.Stripe.{Low, rootStripe, middle, leftPart, rightPart, partOf, holds};
 ghost use Rattle.rule.specs.Shape.{stripeOf};
@@ -142,5 +143,53 @@ pub enum Outcome {
 // The answer of a call: only a found pair carries a pair. The five numbers of each case are in specs/Answer.antt.
 pub struct Answer {
     pub outcome: Outcome,
+    pub visits: u32,
+}
+
+impl Answer {
+    // The five numbers of the answer.
+    pub fn numbers(self) -> Five
+        ensures { λ r. ⌜ r ≡ five self ⌝ }
+    {
+        let o = self.outcome;
+        match o {
+            Outcome::Found(p) => Five {
+                code: codes::DONE,
+                x: p.x,
+                y: p.y,
+                count: 0,
+                visits: self.visits,
+            },
+            Outcome::Nothing => Five {
+                code: codes::NOTHING,
+                x: 0,
+                y: 0,
+                count: 0,
+                visits: self.visits,
+            },
+            Outcome::Listed { count, more } => Five {
+                code: if more { codes::MORE } else { codes::DONE },
+                x: 0,
+                y: 0,
+                count,
+                visits: self.visits,
+            },
+            Outcome::Refused(code) => Five {
+                code,
+                x: 0,
+                y: 0,
+                count: 0,
+                visits: 0,
+            },
+        }
+    }
+}
+
+// An answer as five numbers.
+pub struct Five {
+    pub code: u32,
+    pub x: u32,
+    pub y: u32,
+    pub count: u32,
     pub visits: u32,
 }

@@ -1,0 +1,170 @@
+-- What a line prints, a kind of line at a time.
+use Prim.Native.Nat.{ℕ, _+_, _*_, _-_, _/_, _%_, _≤_, _<_}
+use mathlib.Core.Path.{_≡_, refl, sym, ap, _∙_}
+use mathlib.Core.Bool.{true, false}
+use mathlib.Core.List.{List, [], _∷_, _++_}
+use native.Mathlib.Omega.{arith}
+use lib.Dec.{ltb}
+use lib.ListN.{length, length-append}
+use borrow.Author.Tests.{ltb-true, ltb-false, lt-ltb, le-ltb}
+use Rattle.rule.proofs.Tests.{on}
+use Rattle.rule.specs.declared.Answer.{Answer}
+use Rattle.rule.specs.declared.Five.{Five}
+use Rattle.rule.specs.Answer.{five}
+use Rattle.rule.specs.Codes as codes
+use Rattle.rule.specs.Refusals.{Left, Leaves}
+use Rattle.rule.proofs.Placing.{placed-start}
+use Rattle.script.specs.declared.Asked.{Asked}
+use Rattle.script.specs.declared.Asked.the-variants.{Open, Close, First, Last, Covers, Malformed}
+use Rattle.strips.specs.Promises.{opening, closing, firstToEnd, lastToEnd, listCovers}
+use Rattle.script.specs.declared.Told.the-variants.{Bytes, Short}
+use Rattle.script.specs.Line.{space, askedBy}
+use Rattle.script.specs.Text.{newline, item, row}
+use Rattle.script.specs.Script.{Done, codeRow, foundRow, countRow, matchRows, listRows, changed, found, listed, doneBy, tooShort, lineAnswered, Answers}
+use Rattle.script.specs.Writing.{Puts, Prints, stripItems}
+use Rattle.script.proofs.Printing.{puts-then, item-few, strip-few, rows-few, append-assoc}
+
+-- law: what may be too short
+pub few-bytes : (room o : ℕ) → o < 55 → true ≡ ltb o (55 + 33 * (room / 2))
+few-bytes room o h = sym (lt-ltb o (55 + 33 * (room / 2)) (omega arith))
+
+pub enough-bytes : (room o : ℕ) → 55 ≤ o → ltb ((o - 55) / 33) (room / 2) ≡ ltb o (55 + 33 * (room / 2))
+enough-bytes room o h = on (ltb ((o - 55) / 33) (room / 2))
+    (λ t. let k = ltb-true ((o - 55) / 33) (room / 2) t in t ∙ sym (lt-ltb o (55 + 33 * (room / 2)) (omega arith)))
+    (λ f. let k = ltb-false ((o - 55) / 33) (room / 2) f in f ∙ sym (le-ltb o (55 + 33 * (room / 2)) (omega arith)))
+
+-- the numbers n are those of the answer a
+module _ (a : Answer) (n : Five) (e : n ≡ five a) where
+  -- law: the code alone
+  pub code-put : {o o1 : List ℕ} {r : ℕ} → Puts o 0 (row (n .code ∷ [])) o1 r → Puts o 0 (codeRow a) o1 r
+  code-put p = rw e at p
+
+  -- law: code, end, number, start, visits
+  pub found-put : {o o1 o2 o3 : List ℕ} {r1 r2 r3 : ℕ} → Puts o 0 (item (n .code) space) o1 r1 → Puts o1 r1 (stripItems (n .x) (n .y) space) o2 r2
+      → Puts o2 r2 (item (n .visits) newline) o3 r3 → Puts o 0 (foundRow a) o3 r3
+  unfolding row
+  found-put p q s =
+      let A = item (n .x / 65536) space in
+      let B = item (n .x % 65536) space in
+      let D = item (n .y) space in
+      let W = item (n .visits) newline in
+      let z : (A ++ (B ++ D)) ++ W ≡ A ++ (B ++ (D ++ W)) = append-assoc A (B ++ D) W ∙ ap (λ l. A ++ l) (append-assoc B D W) in
+      let w = puts-then p (puts-then q s) in
+      let w′ = rw z at w in
+      rw e at w′
+
+  -- law: code, count, visits, and the rows
+  pub listed-put : {o o1 o2 o3 o4 : List ℕ} {r1 r2 r3 r4 : ℕ} (room : List ℕ) → Puts o 0 (item (n .code) space) o1 r1 → Puts o1 r1 (item (n .count) space) o2 r2
+      → Puts o2 r2 (item (n .visits) newline) o3 r3 → Puts o3 r3 (matchRows (n .count) room) o4 r4 → Puts o 0 (listRows a room) o4 r4
+  unfolding row
+  listed-put room p q s t = let w = puts-then (puts-then p (puts-then q s)) t in rw e at w
+
+row-few : (n : ℕ) → length (row (n ∷ [])) ≤ 55
+unfolding row
+row-few n = let h = item-few n newline in omega arith
+
+found-few : (a : Answer) → length (foundRow a) ≤ 55
+unfolding row
+found-few a =
+    let b = item-few (five a .code) space in
+    let d = item-few (five a .x / 65536) space in
+    let e = item-few (five a .x % 65536) space in
+    let f = item-few (five a .y) space in
+    let g = item-few (five a .visits) newline in
+    let R1 = item (five a .y) space ++ item (five a .visits) newline in
+    let R2 = item (five a .x % 65536) space ++ R1 in
+    let R3 = item (five a .x / 65536) space ++ R2 in
+    let l1 = length-append (item (five a .y) space) (item (five a .visits) newline) in
+    let l2 = length-append (item (five a .x % 65536) space) R1 in
+    let l3 = length-append (item (five a .x / 65536) space) R2 in
+    let l4 = length-append (item (five a .code) space) R3 in
+    omega arith
+
+list-few : (a : Answer) (room : List ℕ) → length (listRows a room) ≤ 33 + 33 * (length room / 2)
+unfolding row
+list-few a room =
+    let b = item-few (five a .code) space in
+    let d = item-few (five a .count) space in
+    let e = item-few (five a .visits) newline in
+    let R = item (five a .count) space ++ item (five a .visits) newline in
+    let l1 = length-append (item (five a .count) space) (item (five a .visits) newline) in
+    let l2 = length-append (item (five a .code) space) R in
+    let l3 = length-append (item (five a .code) space ++ R) (matchRows (five a .count) room) in
+    let h = rows-few (five a .count) room in
+    omega arith
+
+-- the pool's cells c and the listing room, the output o, and what is asked
+module _ (c room o : List ℕ) (k : Asked) (h : 55 + 33 * (length room / 2) ≤ length o) where
+  change : {c1 o1 : List ℕ} {r : ℕ} {a : Answer} {w : Left} → doneBy c room k ≡ changed room w → Leaves w c1 a → Puts o 0 (codeRow a) o1 r → Prints (doneBy c room k) o c1 room o1 r
+  change {a = a} e L p = rw e (record {
+    cells = L .cells;
+    listing = refl;
+    put = rw (L .answer) at p;
+    within = let f = row-few (five a .code) in let g = p .end in omega arith;
+  })
+
+  -- law: opening
+  pub open-prints : {c1 o1 : List ℕ} {r start end number : ℕ} {a : Answer} → k ≡ Open start end number → Leaves (opening c start end number) c1 a → Puts o 0 (codeRow a) o1 r
+      → Prints (doneBy c room k) o c1 room o1 r
+  unfolding doneBy
+  open-prints e L p = change (rw e) L p
+
+  -- law: closing
+  pub close-prints : {c1 o1 : List ℕ} {r start end number : ℕ} {a : Answer} → k ≡ Close start end number → Leaves (closing c start end number) c1 a → Puts o 0 (codeRow a) o1 r
+      → Prints (doneBy c room k) o c1 room o1 r
+  unfolding doneBy
+  close-prints e L p = change (rw e) L p
+
+  strip : {o1 : List ℕ} {r : ℕ} {a b : Answer} → doneBy c room k ≡ found c room b → a ≡ b → Puts o 0 (foundRow a) o1 r → Prints (doneBy c room k) o c room o1 r
+  strip {a = a} e f p = rw e (record {
+    cells = refl;
+    listing = refl;
+    put = rw f at p;
+    within = let l = found-few a in let g = p .end in omega arith;
+  })
+
+  -- law: first to end
+  pub first-prints : {o1 : List ℕ} {r u : ℕ} {a : Answer} → k ≡ First u → a ≡ firstToEnd c u → Puts o 0 (foundRow a) o1 r → Prints (doneBy c room k) o c room o1 r
+  unfolding doneBy
+  first-prints e f p = strip (rw e) f p
+
+  -- law: last to end
+  pub last-prints : {o1 : List ℕ} {r u v : ℕ} {a : Answer} → k ≡ Last u v → a ≡ lastToEnd c u v → Puts o 0 (foundRow a) o1 r → Prints (doneBy c room k) o c room o1 r
+  unfolding doneBy
+  last-prints e f p = strip (rw e) f p
+
+  -- law: the list of those that cover a slot
+  pub covers-prints : {room1 o1 : List ℕ} {r u : ℕ} {a : Answer} → k ≡ Covers u → Leaves (listCovers c u room) room1 a → length room1 ≡ length room
+      → Puts o 0 (listRows a room1) o1 r → Prints (doneBy c room k) o c room1 o1 r
+  unfolding doneBy
+  covers-prints {room1 = room1} {a = a} e L l p = rw e (record {
+    cells = refl;
+    listing = L .cells;
+    put = rw (L .answer, L .cells) at p;
+    within = let f = list-few a room1 in let g = p .end in omega arith;
+  })
+
+  -- law: a malformed line
+  pub bad-prints : {o1 : List ℕ} {r : ℕ} → k ≡ Malformed → Puts o 0 (row (codes.malformed ∷ [])) o1 r → Prints (doneBy c room k) o c room o1 r
+  unfolding doneBy
+  bad-prints e p = rw e (record { cells = refl; listing = refl; put = p; within = let f = row-few codes.malformed in let g = p .end in omega arith })
+
+-- law: where the output may be too short, nothing is done
+pub short-output : (c room line o : List ℕ) → tooShort room o ≡ true → Answers (lineAnswered c room line o) c room o Short
+unfolding lineAnswered
+short-output c room line o t = simp t (record { cells = refl; room = refl; text = refl; told = refl })
+
+-- law: else what is printed stands from the first byte on
+pub line-done : (c room line o c1 room1 o1 : List ℕ) (r : ℕ) → tooShort room o ≡ false → Prints (doneBy c room (askedBy line)) o c1 room1 o1 r
+    → Answers (lineAnswered c room line o) c1 room1 o1 (Bytes r)
+unfolding lineAnswered
+line-done c room line o c1 room1 o1 r f P =
+    let e = P .put .end in
+    let w = P .within in
+    let d = doneBy c room (askedBy line) in
+    simp f (record {
+      cells = P .cells;
+      room = P .listing;
+      text = P .put .bytes ∙ placed-start o (d .bytes) (omega arith);
+      told = ap Bytes (let z : r ≡ length (d .bytes) = omega arith in z);
+    })

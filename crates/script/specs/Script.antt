@@ -1,0 +1,96 @@
+-- What a line does to the pool and to the listing room, and what it prints.
+use Prim.Native.Nat.{ℕ, zero, suc, _+_, _*_, _/_, _%_}
+use mathlib.Core.Path.{_≡_}
+use mathlib.Core.Bool.{Bool, cond}
+use mathlib.Core.List.{List, [], _∷_, _++_}
+use lib.Dec.{ltb}
+use lib.ListN.{length, drop}
+use Rattle.rule.specs.declared.Answer.{Answer}
+use Rattle.rule.specs.Answer.{five}
+use Rattle.rule.specs.Codes as codes
+use Rattle.rule.specs.Refusals.{Left}
+use Rattle.strips.specs.Promises.{opening, closing, firstToEnd, lastToEnd, listCovers}
+use Rattle.script.specs.declared.Asked.{Asked}
+use Rattle.script.specs.declared.Asked.the-variants.{Open, Close, First, Last, Covers, Malformed}
+use Rattle.script.specs.declared.Told.{Told}
+use Rattle.script.specs.declared.Told.the-variants.{Bytes, Short}
+use Rattle.script.specs.Line.{askedBy}
+use Rattle.script.specs.Text.{row}
+
+-- the pool's cells and the listing room after a line, and what it prints
+pub record Done : Type 0 where
+  pub cells : List ℕ
+  pub room : List ℕ
+  pub bytes : List ℕ
+
+-- the code alone
+abbrev pub codeRow : Answer → List ℕ
+codeRow a = row (five a .code ∷ [])
+
+-- code, end, number, start, visits
+abbrev pub foundRow : Answer → List ℕ
+foundRow a = row (five a .code ∷ five a .x / 65536 ∷ five a .x % 65536 ∷ five a .y ∷ five a .visits ∷ [])
+
+-- code, count, visits
+abbrev pub countRow : Answer → List ℕ
+countRow a = row (five a .code ∷ five a .count ∷ five a .visits ∷ [])
+
+-- a line of end, number, start for each of the first so many matches of a listing's cells
+unfoldable pub matchRows : ℕ → List ℕ → List ℕ
+matchRows zero cells = []
+matchRows (suc n) [] = []
+matchRows (suc n) (x ∷ []) = []
+matchRows (suc n) (x ∷ y ∷ cells) = row (x / 65536 ∷ x % 65536 ∷ y ∷ []) ++ matchRows n cells
+
+-- the count, and a line for each match
+abbrev pub listRows : Answer → List ℕ → List ℕ
+listRows a cells = countRow a ++ matchRows (five a .count) cells
+
+-- a change
+abbrev pub changed : List ℕ → Left → Done
+changed room w = record { cells = w .cells; room = room; bytes = codeRow (w .answer) }
+
+-- a question for one strip
+abbrev pub found : List ℕ → List ℕ → Answer → Done
+found c room a = record { cells = c; room = room; bytes = foundRow a }
+
+-- a list of strips
+abbrev pub listed : List ℕ → Left → Done
+listed c w = record { cells = c; room = w .cells; bytes = listRows (w .answer) (w .cells) }
+
+-- what is asked is done
+unfoldable pub doneBy : List ℕ → List ℕ → Asked → Done
+doneBy c room (Open start end number) = changed room (opening c start end number)
+doneBy c room (Close start end number) = changed room (closing c start end number)
+doneBy c room (First u) = found c room (firstToEnd c u)
+doneBy c room (Last u e) = found c room (lastToEnd c u e)
+doneBy c room (Covers u) = listed c (listCovers c u room)
+doneBy c room Malformed = record { cells = c; room = room; bytes = row (codes.malformed ∷ []) }
+
+-- what a call leaves: the pool's cells, the listing room, the lent bytes, and how many of them it wrote
+pub record After : Type 0 where
+  pub cells : List ℕ
+  pub room : List ℕ
+  pub text : List ℕ
+  pub told : Told
+
+-- the lent bytes may not hold what a line can print: five numbers of at most ten digits, and three for each match that has room
+abbrev pub tooShort : List ℕ → List ℕ → Bool
+tooShort room text = ltb (length text) (55 + 33 * (length room / 2))
+
+-- what the line prints stands from the first byte on
+abbrev pub printed : List ℕ → Done → After
+printed text d = record { cells = d .cells; room = d .room; text = d .bytes ++ drop (length (d .bytes)) text; told = Bytes (length (d .bytes)) }
+
+-- a line over any cells, room and bytes; where the bytes may be too few, nothing is done
+unfoldable pub lineAnswered : (c room line text : List ℕ) → After
+lineAnswered c room line text =
+    let d : After = printed text (doneBy c room (askedBy line)) in
+    cond (tooShort room text) (record { cells = c; room = room; text = text; told = Short }) d
+
+-- a call left these cells and bytes, and told so, as promised
+pub record Answers (w : After) (c o t : List ℕ) (r : Told) : Type 0 where
+  pub cells : c ≡ w .cells
+  pub room : o ≡ w .room
+  pub text : t ≡ w .text
+  pub told : r ≡ w .told
