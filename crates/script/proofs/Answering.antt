@@ -1,11 +1,11 @@
 -- What a line prints, a kind of line at a time.
 use Prim.Native.Nat.{ℕ, _+_, _*_, _-_, _/_, _%_, _≤_, _<_}
 use mathlib.Core.Path.{_≡_, refl, sym, ap, _∙_}
-use mathlib.Core.Bool.{true, false}
+use mathlib.Core.Bool.{true, false, true≢false}
 use mathlib.Core.List.{List, [], _∷_, _++_}
 use native.Mathlib.Omega.{arith}
 use lib.Dec.{ltb}
-use lib.ListN.{length, length-append}
+use lib.ListN.{length, drop, length-append, length-drop}
 use borrow.Author.Tests.{ltb-true, ltb-false, lt-ltb, le-ltb}
 use Rattle.rule.proofs.Tests.{on}
 use Rattle.rule.specs.declared.Answer.{Answer}
@@ -17,6 +17,7 @@ use Rattle.rule.proofs.Placing.{placed-start}
 use Rattle.script.specs.declared.Asked.{Asked}
 use Rattle.script.specs.declared.Asked.the-variants.{Open, Close, First, Last, Covers, Malformed}
 use Rattle.strips.specs.Promises.{opening, closing, firstToEnd, lastToEnd, listCovers}
+use Rattle.script.specs.declared.Told.{Told}
 use Rattle.script.specs.declared.Told.the-variants.{Bytes, Short}
 use Rattle.script.specs.Line.{space, askedBy}
 use Rattle.script.specs.Text.{newline, item, row}
@@ -168,3 +169,20 @@ line-done c room line o c1 room1 o1 r f P =
       text = P .put .bytes ∙ placed-start o (d .bytes) (omega arith);
       told = ap Bytes (let z : r ≡ length (d .bytes) = omega arith in z);
     })
+
+-- law: no more bytes are told than were lent
+pub told-within : (c room line o c1 room1 o1 : List ℕ) (n : ℕ) (r : Told) → Answers (lineAnswered c room line o) c1 room1 o1 r → r ≡ Bytes n → length o1 ≡ length o → n ≤ length o
+unfolding lineAnswered
+told-within c room line o c1 room1 o1 n r A e l =
+    let d = doneBy c room (askedBy line) in
+    on (tooShort room o)
+    (λ t. let f = A .told in let g = simp t at f in absurd (true≢false cc))
+    (λ t.
+    let f = A .told in let g = simp t at f in
+    let x = A .text in let y = simp t at x in
+    let z : Bytes n ≡ Bytes (length (d .bytes)) = sym e ∙ g in
+    let m : n ≡ length (d .bytes) = cc in
+    let k : length o1 ≡ length (d .bytes ++ drop (length (d .bytes)) o) = ap length y in
+    let q = length-append (d .bytes) (drop (length (d .bytes)) o) in
+    let p = length-drop (length (d .bytes)) o in
+    omega arith)

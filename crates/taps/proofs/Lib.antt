@@ -1,0 +1,2 @@
+-- The law on a part of a slice.
+pub mod Parts

@@ -1,0 +1,149 @@
+// The script program: lines from standard input, answers to standard output, in large pieces.
+use bytes::scan;
+use script::Told;
+ghost use Prim.Native.Nat.{_≤_};
+ghost use lib.ListN.{length};
+
+// The bytes of a line that are kept while its end has not been read: one more than a line may have.
+const KEPT: usize = 64;
+
+const NEWLINE: u8 = 10;
+
+// How many reads are made at most.
+const READS: u64 = 18446744073709551615;
+
+// Where the next line starts in the input, and how many bytes the output holds.
+struct Place {
+    from: usize,
+    held: usize,
+}
+
+// How many bytes of a line are kept, and whether there may be more to read.
+struct Left {
+    kept: usize,
+    more: bool,
+}
+
+// The first bytes of the output are written; the answer says whether they could be.
+fn flush(output: &[u8], held: usize) -> bool
+    requires { ⌜ held ≤ length (now output) ⌝ }
+{
+    io::write_all(1, &output[..held])
+}
+
+// A line is answered behind what the output holds, which is written first where there may be no room.
+fn answer(cells: &mut [u32], room: &mut [u32], line: &[u8], output: &mut [u8], held: usize) -> usize
+    requires { ⌜ held ≤ length (now output) ⌝ }
+    ensures { λ r. ⌜ r ≤ length (now (output .entry)) ⌝ }
+{
+    let behind = script::answer_line(cells, room, line, &mut output[held..]);
+    if let Told::Bytes(n) = behind {
+        return held + n;
+    }
+    flush(output, held);
+    let first = script::answer_line(cells, room, line, output);
+    match first {
+        Told::Bytes(n) => n,
+        Told::Short => 0,
+    }
+}
+
+// The lines that end within the first bytes of the input.
+fn answer_lines(
+    cells: &mut [u32],
+    room: &mut [u32],
+    input: &[u8],
+    to: usize,
+    output: &mut [u8],
+) -> Place
+    requires { ⌜ to ≤ length (now input) ⌝ }
+    ensures { λ r. ⌜ (r .from ≤ to) × (r .held ≤ length (now (output .exit))) ⌝ }
+{
+    let mut from = 0;
+    let mut held = 0;
+    loop {
+        let end = scan::find(input, from, to, NEWLINE);
+        if end == to {
+            break;
+        }
+        held = answer(cells, room, &input[from..end], output, held);
+        from = end + 1;
+    }
+    Place { from, held }
+}
+
+// The start of an unended line goes to the front of the input; of a longer one than a line may be, no more than shows that.
+fn keep(input: &mut [u8], from: usize, to: usize) -> usize
+    requires { ⌜ (from ≤ to) × (to ≤ length (now input)) ⌝ }
+    ensures { λ r. ⌜ r ≤ to ⌝ }
+{
+    let mut i = 0;
+    while i < KEPT {
+        if to - from <= i {
+            break;
+        }
+        input[i] = input[from + i];
+        i += 1;
+    }
+    i
+}
+
+// What is read goes behind the kept bytes; the lines that end in it are answered.
+fn turn(
+    cells: &mut [u32],
+    room: &mut [u32],
+    input: &mut [u8],
+    kept: usize,
+    output: &mut [u8],
+) -> Left
+    requires { ⌜ kept ≤ length (now input) ⌝ }
+    ensures { λ r. ⌜ r .kept ≤ length (now (input .exit)) ⌝ }
+{
+    let free = &mut input[kept..];
+    let got = io::count(libc::read(0, free), free);
+    if got == 0 {
+        return Left { kept, more: false };
+    }
+    let to = kept + got;
+    let p = answer_lines(cells, room, input, to, output);
+    let written = flush(output, p.held);
+    Left {
+        kept: keep(input, p.from, to),
+        more: written,
+    }
+}
+
+// Turns until nothing more is read or written. What is kept is then the last line, if its newline is missing.
+fn read_all(cells: &mut [u32], room: &mut [u32], input: &mut [u8], output: &mut [u8]) -> usize
+    ensures { λ r. ⌜ r ≤ length (now (input .exit)) ⌝ }
+{
+    let mut kept = 0;
+    let mut left = READS;
+    while 0 < left {
+        let t = turn(cells, room, input, kept, output);
+        if !t.more {
+            return t.kept;
+        }
+        kept = t.kept;
+        left -= 1;
+    }
+    kept
+}
+
+fn run(cells: &mut [u32], room: &mut [u32], input: &mut [u8], output: &mut [u8]) {
+    let kept = read_all(cells, room, input, output);
+    if kept == 0 {
+        return;
+    }
+    let held = answer(cells, room, &input[..kept], output, 0);
+    flush(output, held);
+}
+
+fn main() {
+    let mut cells = [0; 4096];
+    let mut room = [0; 2046];
+    let mut input = io::large_buffer();
+    let mut output = io::large_buffer();
+    pool::set_up(&mut cells);
+    run(&mut cells, &mut room, &mut input, &mut output);
+}
