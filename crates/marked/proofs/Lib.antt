@@ -1,0 +1,3 @@
+-- Every call goes by its table; the marked cases hold; no wrong program keeps a promise.
+pub mod Tabled
+pub mod Cases

@@ -1,0 +1,221 @@
+-- 01's marked cases, P1 to P9, as one table: calls in order, each with the five numbers that it gives, and the cells where 01 gives them.
+use Prim.Native.Nat.{ℕ, _+_, _*_}
+use mathlib.Core.Path.{_≡_}
+use mathlib.Core.List.{List, [], _∷_}
+use lib.ListN.{length, replicate}
+use Rattle.rule.specs.Answer.{Five, five}
+use Rattle.rule.specs.Cells.{rootOf, freeOf, pairAt, leftAt, rightAt, freeMark}
+use Rattle.rule.specs.Plain.{limits}
+use Rattle.pool.specs.Playing.{set-up, insert, delete, smallest-x, largest-x, smallest-y, list}
+use Rattle.strips.specs.Runs.{opens, closes, first, covers}
+use Rattle.strips.specs.Strips.{numberOf}
+use Rattle.marked.specs.Calls.{Any, pool, strip, check, promised, lentBy}
+
+-- code, x, y, count listed, visits
+abbrev pub numbers : (code x y count visits : ℕ) → Five
+numbers code x y count visits = record { code = code; x = x; y = y; count = count; visits = visits }
+
+-- a step of a case
+pub data Step : Type 0 where
+  -- the call gives these five numbers
+  gives : (call : Any) (answer : Five) → Step
+  -- and the slice that it was lent then holds these cells
+  fills : (call : Any) (answer : Five) (lent : List ℕ) → Step
+  -- this, read off the pool's cells, is that number
+  reads : (of : List ℕ → ℕ) (number : ℕ) → Step
+  -- the pool's cells are these
+  holds : (cells : List ℕ) → Step
+
+-- each step holds, and each call works on the cells that the former left
+abbrev pub Follow : List Step → List ℕ → Type 0
+Follow [] c = Unit {0}
+Follow (gives k a ∷ ss) c = (five (promised c k .answer) ≡ a) × Follow ss (promised c k .cells)
+Follow (fills k a out ∷ ss) c = (five (promised c k .answer) ≡ a) × (promised c k .lent ≡ out) × Follow ss (promised c k .cells)
+Follow (reads f n ∷ ss) c = (f c ≡ n) × Follow ss c
+Follow (holds d ∷ ss) c = (c ≡ d) × Follow ss c
+
+-- a case, with its P-number
+pub data Case : Type 0 where
+  -- steps on a pool of so many slots, which is set up first
+  played : (P slots : ℕ) (steps : List Step) → Case
+  -- a pool of this length serves
+  serves : (P length : ℕ) → Case
+  -- a pool of this length gives 1
+  refuses : (P length : ℕ) → Case
+
+-- done, with nothing found and no visits
+abbrev pub done : Five
+done = numbers 0 0 0 0 0
+
+-- the cells of a pool of n slots before set up: they may hold anything, and hold 77 here
+abbrev pub lentCells : ℕ → List ℕ
+lentCells n = replicate (4 * (n + 1)) 77
+
+-- set up is done on any cells of this length, and check then says sound
+pub record Serves (c : List ℕ) : Type 0 where
+  pub set-up-done : five (promised c (pool set-up) .answer) ≡ done
+  pub check-done : five (promised (promised c (pool set-up) .cells) check .answer) ≡ done
+
+-- a call gives 1 and changes nothing that it was lent
+pub record Refuses (c : List ℕ) (k : Any) : Type 0 where
+  pub answer : five (promised c k .answer) ≡ numbers 1 0 0 0 0
+  pub cells : promised c k .cells ≡ c
+  pub lent : promised c k .lent ≡ lentBy k
+
+-- a case holds: by its steps; or for all cells of its length, and for every call where that is refused
+abbrev pub Holds : Case → Type 0
+Holds (played P n ss) = Follow (gives (pool set-up) done ∷ ss) (lentCells n)
+Holds (serves P n) = (c : List ℕ) → length c ≡ n → Serves c
+Holds (refuses P n) = (c : List ℕ) → length c ≡ n → (k : Any) → Refuses c k
+
+-- the calls by their numbers
+abbrev pub inserts : (x y : ℕ) → Any
+inserts x y = pool (insert (record { x = x; y = y }))
+
+abbrev pub deletes : (x y : ℕ) → Any
+deletes x y = pool (delete (record { x = x; y = y }))
+
+abbrev pub smallestX : (x0 x1 y1 : ℕ) → Any
+smallestX x0 x1 y1 = pool (smallest-x (limits x0 x1 y1))
+
+abbrev pub largestX : (x0 x1 y1 : ℕ) → Any
+largestX x0 x1 y1 = pool (largest-x (limits x0 x1 y1))
+
+abbrev pub smallestY : (x0 x1 : ℕ) → Any
+smallestY x0 x1 = pool (smallest-y x0 x1)
+
+abbrev pub lists : (x0 x1 y1 : ℕ) (out : List ℕ) → Any
+lists x0 x1 y1 out = pool (list (limits x0 x1 y1) out)
+
+abbrev pub opening : (start end number : ℕ) → Any
+opening start end number = strip (opens (record { start = start; end = end; number = number }))
+
+abbrev pub closing : (start end number : ℕ) → Any
+closing start end number = strip (closes (record { start = start; end = end; number = number }))
+
+abbrev pub firstToEnd : (u : ℕ) → Any
+firstToEnd u = strip (first u)
+
+abbrev pub listCovers : (u : ℕ) (out : List ℕ) → Any
+listCovers u out = strip (covers u out)
+
+-- the largest number of 32 bits
+abbrev pub largest : ℕ
+largest = 4294967295
+
+-- P1 [5, 1], [2147483648, 2]: largest x in 0..2147483648, y ≤ 9 is 2147483648, 2 visits
+abbrev pub halfway : List Step
+halfway =
+    gives (inserts 5 1) done
+    ∷ gives (inserts 2147483648 2) done
+    ∷ gives (largestX 0 2147483648 9) (numbers 0 2147483648 2 0 2)
+    ∷ []
+
+-- P2 [9, 2], [5, 3]: insert [5, 1] gives 4
+abbrev pub repeated : List Step
+repeated =
+    gives (inserts 9 2) done
+    ∷ gives (inserts 5 3) done
+    ∷ gives (inserts 5 1) (numbers 4 0 0 0 0)
+    ∷ []
+
+-- P3 root [3, 4]; smallest y in 0..9 is [3, 4]
+abbrev pub tie : List Step
+tie =
+    reads (λ c. pairAt c (rootOf c) .x) 3
+    ∷ reads (λ c. pairAt c (rootOf c) .y) 4
+    ∷ gives (smallestY 0 9) (numbers 0 3 4 0 1)
+    ∷ []
+
+-- P4 n = 1 with [1, 1]: insert [2, 2] gives 5, [1, 9] gives 4; delete [1, 2] gives 7, [3, 1] gives 6
+abbrev pub fullPool : List Step
+fullPool =
+    gives (inserts 1 1) done
+    ∷ gives (inserts 2 2) (numbers 5 0 0 0 0)
+    ∷ gives (inserts 1 9) (numbers 4 0 0 0 0)
+    ∷ gives (deletes 1 2) (numbers 7 0 0 0 0)
+    ∷ gives (deletes 3 1) (numbers 6 0 0 0 0)
+    ∷ []
+
+-- P6 [0, 0] and [4294967295, 4294967295] are stored and found, by each question
+abbrev pub ends : List Step
+ends =
+    gives (inserts 0 0) done
+    ∷ gives (inserts largest largest) done
+    ∷ gives (smallestX 0 0 0) (numbers 0 0 0 0 1)
+    ∷ gives (smallestX largest largest largest) (numbers 0 largest largest 0 2)
+    ∷ gives (largestX 0 0 0) (numbers 0 0 0 0 1)
+    ∷ gives (largestX largest largest largest) (numbers 0 largest largest 0 2)
+    ∷ gives (smallestY 0 0) (numbers 0 0 0 0 1)
+    ∷ gives (smallestY largest largest) (numbers 0 largest largest 0 2)
+    ∷ fills (lists 0 largest largest (7 ∷ 7 ∷ 7 ∷ 7 ∷ [])) (numbers 0 0 0 2 2) (0 ∷ 0 ∷ largest ∷ largest ∷ [])
+    ∷ []
+
+-- the three script strips, opened in that order, and then
+abbrev pub script : List Step → List Step
+script ss = gives (opening 10 20 1) done ∷ gives (opening 5 20 2) done ∷ gives (opening 12 12 3) done ∷ ss
+
+-- P7 slot 20 is covered by two, slot 21 by none, slot 4 by none
+abbrev pub covered : List Step
+covered = script (
+    fills (listCovers 20 (7 ∷ 7 ∷ 7 ∷ 7 ∷ 7 ∷ [])) (numbers 0 0 0 2 3) (1310722 ∷ 5 ∷ 1310721 ∷ 10 ∷ 7 ∷ [])
+    ∷ gives (firstToEnd 20) (numbers 0 1310721 10 0 3)
+    ∷ fills (listCovers 21 (7 ∷ 7 ∷ [])) (numbers 0 0 0 0 3) (7 ∷ 7 ∷ [])
+    ∷ gives (firstToEnd 21) (numbers 8 0 0 0 3)
+    ∷ fills (listCovers 4 (7 ∷ 7 ∷ [])) (numbers 0 0 0 0 1) (7 ∷ 7 ∷ [])
+    ∷ gives (firstToEnd 4) (numbers 8 0 0 0 1)
+    ∷ [])
+
+-- the cells with the three strips in a pool of five slots: the header, then x, y, left, right of each
+abbrev pub three : List ℕ
+three =
+    1 ∷ 1 ∷ 4 ∷ 3
+    ∷ 1310722 ∷ 5 ∷ 2 ∷ 0
+    ∷ 1310721 ∷ 10 ∷ 3 ∷ 0
+    ∷ 786435 ∷ 12 ∷ 0 ∷ 0
+    ∷ 0 ∷ 0 ∷ freeMark ∷ 5
+    ∷ 0 ∷ 0 ∷ freeMark ∷ 0
+    ∷ []
+
+-- P8 same strips, closing number 1: slot 2 holds number 3, slot 3 is first free, pointing to 4. Opening it again restores all cells
+abbrev pub closed : List Step
+closed = script (
+    holds three
+    ∷ gives (closing 10 20 1) done
+    ∷ reads (λ c. numberOf (pairAt c 2)) 3
+    ∷ reads freeOf 3
+    ∷ reads (λ c. leftAt c 3) freeMark
+    ∷ reads (λ c. rightAt c 3) 4
+    ∷ gives (opening 10 20 1) done
+    ∷ holds three
+    ∷ [])
+
+-- P9 room 0 with a match gives 10, no cell written; with no match 0
+abbrev pub noRoom : List Step
+noRoom =
+    gives (inserts 1 1) done
+    ∷ fills (lists 0 9 9 []) (numbers 10 0 0 0 1) []
+    ∷ fills (lists 0 9 9 (7 ∷ [])) (numbers 10 0 0 0 1) (7 ∷ [])
+    ∷ fills (lists 2 9 9 []) (numbers 0 0 0 0 1) []
+    ∷ fills (lists 2 9 9 (7 ∷ [])) (numbers 0 0 0 0 1) (7 ∷ [])
+    ∷ holds (1 ∷ 1 ∷ 0 ∷ 1 ∷ 1 ∷ 1 ∷ 0 ∷ 0 ∷ [])
+    ∷ []
+
+-- the table; P3 in either order, P5 by a row for each length
+abbrev pub cases : List Case
+cases =
+    played 1 2 halfway
+    ∷ played 2 3 repeated
+    ∷ played 3 2 (gives (inserts 7 4) done ∷ gives (inserts 3 4) done ∷ tie)
+    ∷ played 3 2 (gives (inserts 3 4) done ∷ gives (inserts 7 4) done ∷ tie)
+    ∷ played 4 1 fullPool
+    ∷ serves 5 8
+    ∷ serves 5 16384
+    ∷ refuses 5 4
+    ∷ refuses 5 7
+    ∷ refuses 5 16388
+    ∷ played 6 2 ends
+    ∷ played 7 5 covered
+    ∷ played 8 5 closed
+    ∷ played 9 1 noRoom
+    ∷ []
