@@ -2,3 +2,5 @@
 pub mod Calls
 pub mod Cases
 pub mod Tables
+pub mod Wrong
+pub mod Samples

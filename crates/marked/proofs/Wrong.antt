@@ -1,0 +1,154 @@
+-- A program that keeps a promise is none of 01's five wrong programs. What it answers is the promise's, so each law is one of the promise.
+use Prim.Native.Nat.{ℕ, suc, _<_}
+use mathlib.Core.Path.{_≡_, refl, sym, ap, _∙_}
+use mathlib.Core.Logic.{inl, inr}
+use mathlib.Core.Bool.{true, false, cond}
+use mathlib.Core.List.{List, [], _∷_}
+use Rattle.rule.specs.declared.Outcome.{Outcome}
+use Rattle.rule.specs.declared.Outcome.the-variants.{Found, Nothing, Listed, Refused}
+use Rattle.rule.specs.Answer.{five, numbersOf}
+use Rattle.rule.specs.Refusals.{Line}
+use Rattle.rule.proofs.Promised.{one-answer}
+use Rattle.rule.proofs.Tests.{on, clash}
+use Rattle.pool.specs.Playing.{Call, set-up, insert, delete, smallest-x, largest-x, smallest-y, list, play, Book, playAll, plainlyAll, AllSmallX}
+use Rattle.pool.proofs.Played as pool-runs
+use Rattle.strips.specs.Runs.{StripCall, opens, closes, first, last, earliest, covers, meets, contains, playStrip, playStrips, plainlyStrips}
+use Rattle.strips.proofs.Runs as strip-runs
+use Rattle.marked.specs.Calls.{Any, pool, strip, Result, promised, lentBy}
+use Rattle.marked.specs.Tables.{linesOf, visitsOf, isRefusal, NoLine, byTable}
+use Rattle.marked.specs.Wrong.{Program, Kind, kindOf, writesOf, Keeps, KeepsAll, AlwaysRefuses, OneAnswer, Idle, Pretends, MadeUp, Wrong, refuses, constant, idle, pretends, made-up, Served, runs, stripRuns}
+use Rattle.marked.specs.Samples.{sample}
+use Rattle.marked.proofs.Tabled.{tabled, none-holds}
+use Rattle.marked.proofs.Samples.{shown}
+
+-- the code of an outcome that is no refusal
+served-code : (o : Outcome) (v : ℕ) → isRefusal o ≡ false → Served (numbersOf o v .code)
+unfolding numbersOf
+served-code (Found p) v f = inl refl
+served-code Nothing v f = inr (inl refl)
+served-code (Listed n false) v f = inl refl
+served-code (Listed n true) v f = inr (inr refl)
+served-code (Refused k) v f = absurd (clash refl f)
+
+-- and the visits that it reports are its own
+served-visits : (o : Outcome) (v : ℕ) → isRefusal o ≡ false → numbersOf o v .visits ≡ v
+unfolding numbersOf
+served-visits (Found p) v f = refl
+served-visits Nothing v f = refl
+served-visits (Listed n false) v f = refl
+served-visits (Listed n true) v f = refl
+served-visits (Refused k) v f = absurd (clash refl f)
+
+-- what a table gives and does not refuse is what it makes
+table-made : (ls : List Line) (c out : List ℕ) (made : Result) → isRefusal (byTable ls c out made .answer .outcome) ≡ false → byTable ls c out made ≡ made
+unfolding byTable
+table-made [] c out made f = refl
+table-made (l ∷ ls) c out made f = on (l .when)
+    (λ t. absurd (clash refl (rw t at f)))
+    (λ n. rw n (table-made ls c out made (rw n at f)))
+
+module _ (c : List ℕ) (k : Any) where
+  -- law: what no line of a call's table refuses is answered with 0, 8 or 10
+  pub accepted-code : NoLine (linesOf c k) → Served (five (promised c k .answer) .code)
+  unfolding five
+  accepted-code n =
+      let w = tabled c k in
+      rw (w .table, none-holds (linesOf c k) c (lentBy k) (w .made) n) (served-code (w .made .answer .outcome) (w .made .answer .visits) (w .serves))
+
+  -- law: the visits that a call reports, where it is not refused, are those of its walk
+  pub walk-visits : isRefusal (promised c k .answer .outcome) ≡ false → five (promised c k .answer) .visits ≡ visitsOf c k
+  unfolding five
+  walk-visits f =
+      let w = tabled c k in
+      let m = table-made (linesOf c k) c (lentBy k) (w .made) (rw (w .table) at f) in
+      rw (w .table, m) (served-visits (w .made .answer .outcome) (w .made .answer .visits) (w .serves) ∙ w .visits)
+
+module _ (K : Kind) (g : Program) (keeps : Keeps K g) where
+  -- law: it does not always refuse
+  pub not-always-refusing : AlwaysRefuses K g → ⊥
+  not-always-refusing r =
+      let s = shown K in
+      let k = sample K .call in
+      let c = sample K .served in
+      clash (rw (keeps 0 c k (s .kind)) at (r 0 c k (s .kind))) (s .serves)
+
+  -- law: it does not give one constant answer
+  pub not-constant : OneAnswer K g → ⊥
+  not-constant a =
+      let s = shown K in
+      let k = sample K .call in
+      let c = sample K .served in
+      let d = sample K .otherwise in
+      let e : five (promised c k .answer) ≡ a .answer = rw (keeps 0 c k (s .kind)) at (a .always 0 c k (s .kind)) in
+      let f : five (promised d k .answer) ≡ a .answer = rw (keeps 0 d k (s .kind)) at (a .always 0 d k (s .kind)) in
+      s .differs (one-answer e f)
+
+  -- law: where calls of its kind write, it does not leave all that it is lent as it was
+  pub not-idle : writesOf K ≡ true → Idle K g → ⊥
+  not-idle t i =
+      let s = shown K in
+      let k = sample K .call in
+      let c = sample K .served in
+      s .writes t (rw (keeps 0 c k (s .kind)) at (i .cells 0 c k (s .kind))) (rw (keeps 0 c k (s .kind)) at (i .lent 0 c k (s .kind)))
+
+  -- law: at its t-th call it does what it would have done at its first
+  pub same-later : (t : ℕ) (c : List ℕ) (k : Any) → kindOf k ≡ K → g t c k ≡ g 0 c k
+  same-later t c k e = one-answer (keeps t c k e) (keeps 0 c k e)
+
+  pub not-pretending : Pretends K g → ⊥
+  not-pretending p = p .differs (same-later (p .before) (p .cells) (p .call) (p .kind))
+
+  -- law: its visits are not made up
+  pub not-made-up : MadeUp K g → ⊥
+  not-made-up m =
+      let e = keeps (m .before) (m .cells) (m .call) (m .kind) in
+      m .differs (rw e (walk-visits (m .cells) (m .call) (rw e at (m .serves))))
+
+  -- law: so it is none of the five
+  pub none-wrong : Wrong K g → ⊥
+  none-wrong (refuses r) = not-always-refusing r
+  none-wrong (constant a) = not-constant a
+  none-wrong (idle t i) = not-idle t i
+  none-wrong (pretends p) = not-pretending p
+  none-wrong (made-up m) = not-made-up m
+
+-- one call of a run, as the pool's runs and the strips' have it
+pool-step : (c : List ℕ) (k : Call) → play c k ≡ record { cells = promised c (pool k) .cells; outcome = promised c (pool k) .answer .outcome }
+unfolding play promised
+pool-step c set-up = refl
+pool-step c (insert p) = refl
+pool-step c (delete p) = refl
+pool-step c (smallest-x q) = refl
+pool-step c (largest-x q) = refl
+pool-step c (smallest-y x0 x1) = refl
+pool-step c (list q out) = refl
+
+strip-step : (c : List ℕ) (k : StripCall) → playStrip c k ≡ record { cells = promised c (strip k) .cells; outcome = promised c (strip k) .answer .outcome }
+unfolding playStrip promised
+strip-step c (opens n) = refl
+strip-step c (closes n) = refl
+strip-step c (first u) = refl
+strip-step c (last u e) = refl
+strip-step c (earliest u v) = refl
+strip-step c (covers u out) = refl
+strip-step c (meets u v out) = refl
+strip-step c (contains u v out) = refl
+
+module _ (g : Program) (keeps : KeepsAll g) where
+  runs-played : (t : ℕ) (ks : List Call) (c : List ℕ) → runs g t ks c ≡ playAll ks c
+  unfolding runs playAll
+  runs-played t [] c = refl
+  runs-played t (k ∷ ks) c = rw (keeps t c (pool k), pool-step c k, runs-played (suc t) ks (promised c (pool k) .cells))
+
+  strip-runs-played : (t : ℕ) (ks : List StripCall) (c : List ℕ) → stripRuns g t ks c ≡ playStrips ks c
+  unfolding stripRuns playStrips
+  strip-runs-played t [] c = refl
+  strip-runs-played t (k ∷ ks) c = rw (keeps t c (strip k), strip-step c k, strip-runs-played (suc t) ks (promised c (strip k) .cells))
+
+  -- law: over whole sequences, however late they start, its outcomes and its stored set are those of a plain list
+  pub run-agrees : (t : ℕ) (ks : List Call) (c : List ℕ) (b : Book) → AllSmallX ks → pool-runs.Same c b → pool-runs.Agrees (runs g t ks c) (plainlyAll ks b)
+  run-agrees t ks c b z h = rw (runs-played t ks c) (pool-runs.plays-all ks c b z h)
+
+  -- law: and so over sequences of strip calls
+  pub strip-run-agrees : (t : ℕ) (ks : List StripCall) (c : List ℕ) (b : Book) → pool-runs.Same c b → strip-runs.Agrees (stripRuns g t ks c) (plainlyStrips ks b)
+  strip-run-agrees t ks c b h = rw (strip-runs-played t ks c) (strip-runs.strip-plays-all ks c b h)

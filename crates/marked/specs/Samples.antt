@@ -1,0 +1,66 @@
+-- A call of each kind that shows what the kind's promise asks: it is served on some cells, and answered otherwise on others.
+use Prim.Native.Nat.{ℕ}
+use mathlib.Core.Path.{_≡_}
+use mathlib.Core.Logic.{_≢_}
+use mathlib.Core.Bool.{true, false}
+use mathlib.Core.List.{List, [], _∷_}
+use lib.ListN.{replicate}
+use Rattle.rule.specs.Answer.{five}
+use Rattle.rule.specs.Cells.{freeMark}
+use Rattle.rule.specs.Plain.{limits}
+use Rattle.pool.specs.Playing.{set-up, insert, delete, smallest-x, largest-x, smallest-y, list}
+use Rattle.strips.specs.Runs.{Named, opens, closes, first, last, earliest, covers, meets, contains}
+use Rattle.marked.specs.Calls.{Any, pool, strip, check, save, promised, lentBy}
+use Rattle.marked.specs.Tables.{isRefusal}
+use Rattle.marked.specs.Wrong.{Kind, set-ups, inserts, deletes, smallest-xs, largest-xs, smallest-ys, listings, openings, closings, firsts, lasts, earliests, coverings, meetings, containings, checks, saves, kindOf, writesOf}
+
+-- a pool of one slot with nothing stored
+abbrev pub empty : List ℕ
+empty = 1 ∷ 0 ∷ 1 ∷ 0 ∷ 0 ∷ 0 ∷ freeMark ∷ 0 ∷ []
+
+-- the same with the pair [1, 0], which is the strip from 0 to 0 with the number 1
+abbrev pub one : List ℕ
+one = 1 ∷ 1 ∷ 0 ∷ 1 ∷ 1 ∷ 0 ∷ 0 ∷ 0 ∷ []
+
+abbrev pub only : Named
+only = record { start = 0; end = 0; number = 1 }
+
+-- cells to be written to
+abbrev pub room : List ℕ
+room = 7 ∷ 7 ∷ []
+
+-- a call, cells on which it is served, and cells on which it is answered otherwise
+pub record Sample : Type 0 where
+  pub call : Any
+  pub served : List ℕ
+  pub otherwise : List ℕ
+
+abbrev pub on : Any → List ℕ → List ℕ → Sample
+on k c d = record { call = k; served = c; otherwise = d }
+
+-- a sample of each kind
+abbrev pub sample : Kind → Sample
+sample set-ups = on (pool set-up) one []
+sample inserts = on (pool (insert (record { x = 1; y = 0 }))) empty one
+sample deletes = on (pool (delete (record { x = 1; y = 0 }))) one empty
+sample smallest-xs = on (pool (smallest-x (limits 1 1 0))) one empty
+sample largest-xs = on (pool (largest-x (limits 1 1 0))) one empty
+sample smallest-ys = on (pool (smallest-y 1 1)) one empty
+sample listings = on (pool (list (limits 1 1 0) room)) one empty
+sample openings = on (strip (opens only)) empty one
+sample closings = on (strip (closes only)) one empty
+sample firsts = on (strip (first 0)) one empty
+sample lasts = on (strip (last 0 0)) one empty
+sample earliests = on (strip (earliest 0 0)) one empty
+sample coverings = on (strip (covers 0 room)) one empty
+sample meetings = on (strip (meets 0 0 room)) one empty
+sample containings = on (strip (contains 0 0 room)) one empty
+sample checks = on check one []
+sample saves = on (save (replicate 13 7)) one []
+
+-- what a kind's sample shows of its promise: it does not refuse everything, it does not always answer the same, and it writes where its kind does
+pub record Shown (K : Kind) (s : Sample) : Type 0 where
+  pub kind : kindOf (s .call) ≡ K
+  pub serves : isRefusal (promised (s .served) (s .call) .answer .outcome) ≡ false
+  pub differs : five (promised (s .served) (s .call) .answer) ≢ five (promised (s .otherwise) (s .call) .answer)
+  pub writes : writesOf K ≡ true → promised (s .served) (s .call) .cells ≡ s .served → promised (s .served) (s .call) .lent ≡ lentBy (s .call) → ⊥

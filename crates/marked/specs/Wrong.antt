@@ -1,0 +1,132 @@
+-- Programs that are tried against the promises: what it is to keep one, and 01's five wrong programs.
+use Prim.Native.Nat.{ℕ, suc}
+use mathlib.Core.Path.{_≡_}
+use mathlib.Core.Logic.{_≢_, _⊎_}
+use mathlib.Core.Bool.{Bool, true, false}
+use mathlib.Core.List.{List, [], _∷_}
+use Rattle.rule.specs.Answer.{Five, five}
+use Rattle.pool.specs.Playing.{Call, set-up, insert, delete, smallest-x, largest-x, smallest-y, list, Run}
+use Rattle.strips.specs.Runs.{StripCall, opens, closes, first, last, earliest, covers, meets, contains, StripRun}
+use Rattle.marked.specs.Calls.{Any, pool, strip, check, save, Result, promised, lentBy}
+use Rattle.marked.specs.Tables.{isRefusal, visitsOf}
+
+-- what a program does at a call: it knows how many calls came before, so it may behave otherwise later; the lent cells; and what is passed in
+abbrev pub Program : Type 0
+Program = (before : ℕ) (cells : List ℕ) (call : Any) → Result
+
+-- the kinds of call
+pub data Kind : Type 0 where
+  set-ups inserts deletes smallest-xs largest-xs smallest-ys listings : Kind
+  openings closings firsts lasts earliests coverings meetings containings : Kind
+  checks saves : Kind
+
+abbrev pub poolKind : Call → Kind
+poolKind set-up = set-ups
+poolKind (insert p) = inserts
+poolKind (delete p) = deletes
+poolKind (smallest-x q) = smallest-xs
+poolKind (largest-x q) = largest-xs
+poolKind (smallest-y x0 x1) = smallest-ys
+poolKind (list q out) = listings
+
+abbrev pub stripKind : StripCall → Kind
+stripKind (opens n) = openings
+stripKind (closes n) = closings
+stripKind (first u) = firsts
+stripKind (last u e) = lasts
+stripKind (earliest u v) = earliests
+stripKind (covers u out) = coverings
+stripKind (meets u v out) = meetings
+stripKind (contains u v out) = containings
+
+abbrev pub kindOf : Any → Kind
+kindOf (pool k) = poolKind k
+kindOf (strip k) = stripKind k
+kindOf check = checks
+kindOf (save bytes) = saves
+
+-- whether calls of a kind write into what they are lent; a question for one pair writes nothing
+abbrev pub writesOf : Kind → Bool
+writesOf set-ups = true
+writesOf inserts = true
+writesOf deletes = true
+writesOf smallest-xs = false
+writesOf largest-xs = false
+writesOf smallest-ys = false
+writesOf listings = true
+writesOf openings = true
+writesOf closings = true
+writesOf firsts = false
+writesOf lasts = false
+writesOf earliests = false
+writesOf coverings = true
+writesOf meetings = true
+writesOf containings = true
+writesOf checks = false
+writesOf saves = true
+
+-- the program meets the promise of a kind's calls, at every input and whenever it is called
+abbrev pub Keeps : Kind → Program → Type 0
+Keeps K g = (t : ℕ) (c : List ℕ) (k : Any) → kindOf k ≡ K → g t c k ≡ promised c k
+
+-- it meets the promise of every call
+abbrev pub KeepsAll : Program → Type 0
+KeepsAll g = (t : ℕ) (c : List ℕ) (k : Any) → g t c k ≡ promised c k
+
+-- always refusing
+abbrev pub AlwaysRefuses : Kind → Program → Type 0
+AlwaysRefuses K g = (t : ℕ) (c : List ℕ) (k : Any) → kindOf k ≡ K → isRefusal (g t c k .answer .outcome) ≡ true
+
+-- one constant answer
+pub record OneAnswer (K : Kind) (g : Program) : Type 0 where
+  pub answer : Five
+  pub always : (t : ℕ) (c : List ℕ) (k : Any) → kindOf k ≡ K → five (g t c k .answer) ≡ answer
+
+-- changing nothing: all that is lent stays as it was
+pub record Idle (K : Kind) (g : Program) : Type 0 where
+  pub cells : (t : ℕ) (c : List ℕ) (k : Any) → kindOf k ≡ K → g t c k .cells ≡ c
+  pub lent : (t : ℕ) (c : List ℕ) (k : Any) → kindOf k ≡ K → g t c k .lent ≡ lentBy k
+
+-- working on the first call and pretending later: some later call does not do what the first would have done
+pub record Pretends (K : Kind) (g : Program) : Type 0 where
+  pub before : ℕ
+  pub cells : List ℕ
+  pub call : Any
+  pub kind : kindOf call ≡ K
+  pub differs : g before cells call ≢ g 0 cells call
+
+-- made-up visits: some call that is not refused reports others than the walk's
+pub record MadeUp (K : Kind) (g : Program) : Type 0 where
+  pub before : ℕ
+  pub cells : List ℕ
+  pub call : Any
+  pub kind : kindOf call ≡ K
+  pub serves : isRefusal (g before cells call .answer .outcome) ≡ false
+  pub differs : five (g before cells call .answer) .visits ≢ visitsOf cells call
+
+-- the five wrong programs
+pub data Wrong (K : Kind) (g : Program) : Type 0 where
+  refuses : AlwaysRefuses K g → Wrong K g
+  constant : OneAnswer K g → Wrong K g
+  idle : writesOf K ≡ true → Idle K g → Wrong K g
+  pretends : Pretends K g → Wrong K g
+  made-up : MadeUp K g → Wrong K g
+
+-- the codes of what is not refused: done or found or listed, nothing matches, more matches than room
+abbrev pub Served : ℕ → Type 0
+Served code = (code ≡ 0) ⊎ ((code ≡ 8) ⊎ (code ≡ 10))
+
+-- a program's own run of calls, each on the cells that the former left
+unfoldable pub runs : Program → ℕ → List Call → List ℕ → Run
+runs g t [] c = record { outcomes = []; cells = c }
+runs g t (k ∷ ks) c =
+    let w : Result = g t c (pool k) in
+    let r : Run = runs g (suc t) ks (w .cells) in
+    record { outcomes = w .answer .outcome ∷ r .outcomes; cells = r .cells }
+
+unfoldable pub stripRuns : Program → ℕ → List StripCall → List ℕ → StripRun
+stripRuns g t [] c = record { outcomes = []; cells = c }
+stripRuns g t (k ∷ ks) c =
+    let w : Result = g t c (strip k) in
+    let r : StripRun = stripRuns g (suc t) ks (w .cells) in
+    record { outcomes = w .answer .outcome ∷ r .outcomes; cells = r .cells }
