@@ -1,9 +1,8 @@
 -- The marked cases hold: the played ones by working them out, those on lengths for all cells of such a length.
 use Prim.Native.Nat.{ℕ}
-use mathlib.Core.Path.{_≡_, refl, ap}
+use mathlib.Core.Path.{_≡_, refl}
 use mathlib.Core.Bool.{true, false}
 use mathlib.Core.List.{List}
-use lib.ListN.{length}
 use Rattle.rule.specs.Answer.{five, numbersOf}
 use Rattle.rule.specs.Cells.{isFree, storedFrom, treeAt, freeSlots, fresh}
 use Rattle.rule.specs.Changes.{goDown, fill, takeOut, met}
@@ -15,7 +14,7 @@ use Rattle.rule.specs.Stripe as stripe
 use Rattle.rule.specs.Test.{isPool, slotFine, alone, fine, below, rootFine, freeFine, chainFine, restFine, isSound}
 use Rattle.rule.specs.Walks.{smallestX, largestX, smallestY, listing}
 use Rattle.rule.proofs.Decided.{pool-true}
-use Rattle.sound.specs.Promises.{lengthLine, setUp, checked}
+use Rattle.sound.specs.Promises.{lengthLine, setUp}
 use Rattle.sound.proofs.Meaning as meaning
 use Rattle.pool.specs.Changing.{insertion, deletion}
 use Rattle.pool.specs.Asking.{smallestXAnswer, largestXAnswer, smallestYAnswer, listingLeft}
@@ -48,18 +47,44 @@ pub marked : Each Holds cases
 unfolding five numbersOf promised setUp leftBy answerBy isPool fresh freeSlots insertion isSound rootFine slotFine below fine alone met stripe.holds restFine chainFine freeFine isFree storedFrom treeAt hasX has inserted lay goDown beats largestXAnswer largestXOf largestX deletion deleted fill takeOut smallestXAnswer smallestXOf smallestX smallestYAnswer smallestYOf smallestY listingLeft listing opening closing firstToEnd listCovers
 marked = (
   (refl, (refl, (refl, (refl, tt)))),
-  ((refl, (refl, (refl, (refl, tt)))),
-  ((refl, (refl, (refl, (refl, (refl, (refl, tt)))))),
-  ((refl, (refl, (refl, (refl, (refl, (refl, tt)))))),
-  ((refl, (refl, (refl, (refl, (refl, (refl, tt)))))),
-  (λ c e. length-serves c (rw e),
-  (λ c e. length-serves c (rw e),
-  (λ c e. length-refuses c (rw e),
-  (λ c e. length-refuses c (rw e),
-  (λ c e. length-refuses c (rw e),
-  ((refl, (refl, (refl, (refl, (refl, (refl, (refl, (refl, (refl, (refl, refl, tt)))))))))),
-  ((refl, (refl, (refl, (refl, (refl, refl, (refl, (refl, refl, (refl, (refl, refl, (refl, tt)))))))))),
-  ((refl, (refl, (refl, (refl, (refl, (refl, (refl, (refl, (refl, (refl, (refl, (refl, tt)))))))))))),
-  ((refl, (refl, (refl, refl, (refl, refl, (refl, refl, (refl, refl, (refl, tt))))))),
-  tt)))))))))))))
+  (
+    (refl, (refl, (refl, (refl, tt)))),
+    (
+      (refl, (refl, (refl, (refl, (refl, (refl, tt)))))),
+      (
+        (refl, (refl, (refl, (refl, (refl, (refl, tt)))))),
+        (
+          (refl, (refl, (refl, (refl, (refl, (refl, tt)))))),
+          (
+            λ c e. length-serves c (rw e),
+            (
+              λ c e. length-serves c (rw e),
+              (
+                λ c e. length-refuses c (rw e),
+                (
+                  λ c e. length-refuses c (rw e),
+                  (
+                    λ c e. length-refuses c (rw e),
+                    (
+                      (refl, (refl, (refl, (refl, (refl, (refl, (refl, (refl, (refl, (refl, refl, tt)))))))))),
+                      (
+                        (refl, (refl, (refl, (refl, (refl, refl, (refl, (refl, refl, (refl, (refl, refl, (refl, tt)))))))))),
+                        (
+                          (refl, (refl, (refl, (refl, (refl, (refl, (refl, (refl, (refl, (refl, (refl, (refl, tt)))))))))))),
+                          (
+                            (refl, (refl, (refl, refl, (refl, refl, (refl, refl, (refl, refl, (refl, tt))))))),
+                            tt,
+                          ),
+                        ),
+                      ),
+                    ),
+                  ),
+                ),
+              ),
+            ),
+          ),
+        ),
+      ),
+    ),
+  ),
 )

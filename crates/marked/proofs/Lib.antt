@@ -3,3 +3,4 @@ pub mod Tabled
 pub mod Cases
 pub mod Samples
 pub mod Wrong
+pub mod Next

@@ -16,7 +16,7 @@ use Rattle.pool.specs.Asking.{outcomeOf, smallestXAnswer, largestXAnswer, small
 use Rattle.pool.specs.Changing.{insertion, deletion}
 use Rattle.pool.specs.Playing.{Call, set-up, insert, delete, smallest-x, largest-x, smallest-y, list}
 use Rattle.strips.specs.Promises.{opening, closing, firstToEnd, lastToEnd, earliestStart, listCovers, listMeets, listContains}
-use Rattle.strips.specs.Runs.{StripCall, opens, closes, first, last, earliest, covers, meets, contains, callOf}
+use Rattle.strips.specs.Runs.{StripCall, opens, closes, first, last, earliest, covers, meets, contains}
 use Rattle.strips.specs.Strips.{coversLimits, lastLimits}
 use Rattle.book.specs.Promises.{saved}
 use Rattle.marked.specs.Calls.{Any, pool, strip, check, save, Result, changes, asks, writes, promised}

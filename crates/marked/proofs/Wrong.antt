@@ -1,8 +1,8 @@
 -- A program that keeps a promise is none of 01's five wrong programs. What it answers is the promise's, so each law is one of the promise.
-use Prim.Native.Nat.{ℕ, suc, _<_}
-use mathlib.Core.Path.{_≡_, refl, sym, ap, _∙_}
+use Prim.Native.Nat.{ℕ, suc}
+use mathlib.Core.Path.{_≡_, refl, _∙_}
 use mathlib.Core.Logic.{inl, inr}
-use mathlib.Core.Bool.{true, false, cond}
+use mathlib.Core.Bool.{true, false}
 use mathlib.Core.List.{List, [], _∷_}
 use Rattle.rule.specs.declared.Outcome.{Outcome}
 use Rattle.rule.specs.declared.Outcome.the-variants.{Found, Nothing, Listed, Refused}
@@ -64,13 +64,16 @@ module _ (c : List ℕ) (k : Any) where
       rw (w .table, m) (served-visits (w .made .answer .outcome) (w .made .answer .visits) (w .serves) ∙ w .visits)
 
 module _ (K : Kind) (g : Program) (keeps : Keeps K g) where
-  -- law: it does not always refuse
+  -- law: what no line of the call's table refuses it answers with 0, 8 or 10
+  pub serves-unrefused : (t : ℕ) (c : List ℕ) (k : Any) → kindOf k ≡ K → NoLine (linesOf c k) → Served (five (g t c k .answer) .code)
+  serves-unrefused t c k e n = rw (keeps t c k e) (accepted-code c k n)
+
+  -- law: there is an input that it does not refuse, whenever it comes; so it does not always refuse
+  pub serves-somewhere : (t : ℕ) → isRefusal (g t (sample K .served) (sample K .call) .answer .outcome) ≡ false
+  serves-somewhere t = rw (keeps t (sample K .served) (sample K .call) (shown K .kind)) (shown K .serves)
+
   pub not-always-refusing : AlwaysRefuses K g → ⊥
-  not-always-refusing r =
-      let s = shown K in
-      let k = sample K .call in
-      let c = sample K .served in
-      clash (rw (keeps 0 c k (s .kind)) at (r 0 c k (s .kind))) (s .serves)
+  not-always-refusing r = clash (r 0 (sample K .served) (sample K .call) (shown K .kind)) (serves-somewhere 0)
 
   -- law: it does not give one constant answer
   pub not-constant : OneAnswer K g → ⊥
@@ -91,18 +94,19 @@ module _ (K : Kind) (g : Program) (keeps : Keeps K g) where
       let c = sample K .served in
       s .writes t (rw (keeps 0 c k (s .kind)) at (i .cells 0 c k (s .kind))) (rw (keeps 0 c k (s .kind)) at (i .lent 0 c k (s .kind)))
 
-  -- law: at its t-th call it does what it would have done at its first
+  -- law: at its t-th call it does what it would have done at its first; so it does not pretend later
   pub same-later : (t : ℕ) (c : List ℕ) (k : Any) → kindOf k ≡ K → g t c k ≡ g 0 c k
   same-later t c k e = one-answer (keeps t c k e) (keeps 0 c k e)
 
   pub not-pretending : Pretends K g → ⊥
   not-pretending p = p .differs (same-later (p .before) (p .cells) (p .call) (p .kind))
 
-  -- law: its visits are not made up
+  -- law: the visits that it reports, where it does not refuse, are those of the walk; so they are not made up
+  pub visits-walked : (t : ℕ) (c : List ℕ) (k : Any) → kindOf k ≡ K → isRefusal (g t c k .answer .outcome) ≡ false → five (g t c k .answer) .visits ≡ visitsOf c k
+  visits-walked t c k e f = rw (keeps t c k e) (walk-visits c k (rw (keeps t c k e) at f))
+
   pub not-made-up : MadeUp K g → ⊥
-  not-made-up m =
-      let e = keeps (m .before) (m .cells) (m .call) (m .kind) in
-      m .differs (rw e (walk-visits (m .cells) (m .call) (rw e at (m .serves))))
+  not-made-up m = m .differs (visits-walked (m .before) (m .cells) (m .call) (m .kind) (m .serves))
 
   -- law: so it is none of the five
   pub none-wrong : Wrong K g → ⊥

@@ -4,3 +4,4 @@ pub mod Cases
 pub mod Tables
 pub mod Wrong
 pub mod Samples
+pub mod Next

@@ -1,9 +1,8 @@
 -- Every call's table of refusals, in 01's order, and the visits of its walk.
-use Prim.Native.Nat.{ℕ, _+_, _*_}
+use Prim.Native.Nat.{ℕ}
 use mathlib.Core.Path.{_≡_}
 use mathlib.Core.Bool.{Bool, true, false, cond}
 use mathlib.Core.List.{List, [], _∷_}
-use Rattle.rule.specs.declared.Answer.{Answer}
 use Rattle.rule.specs.declared.Outcome.{Outcome}
 use Rattle.rule.specs.declared.Outcome.the-variants.{Found, Nothing, Listed, Refused}
 use Rattle.rule.specs.Answer.{refused}
