@@ -35,6 +35,7 @@ apart m n f a b ea eb e = eqb-false m n f (sym ea ∙ ap (λ a. a .code + a .cou
 off : (i m n : ℕ) → eqb m n ≡ false → (c d : List ℕ) → getD c i 0 ≡ m → getD d i 0 ≡ n → c ≡ d → ⊥
 off i m n f c d ec ed e = eqb-false m n f (sym ec ∙ ap (λ c. getD c i 0) e ∙ ed)
 
+-- law: each kind's promise serves some input, answers another otherwise, and writes where its kind does
 pub shown : (K : Kind) → Shown K (sample K)
 unfolding five numbersOf promised setUp checked leftBy answerBy isPool fresh freeSlots insertion isSound rootFine slotFine below fine alone met stripe.holds restFine chainFine freeFine isFree storedFrom treeAt hasX has inserted lay goDown beats largestXAnswer largestXOf largestX deletion deleted fill takeOut smallestXAnswer smallestXOf smallestX smallestYAnswer smallestYOf smallestY listingLeft listing opening closing firstToEnd lastToEnd earliestStart listCovers listMeets listContains saved bookOf byX
 shown set-ups = record { kind = refl; serves = refl; differs = apart 0 1 refl _ _ refl refl; writes = λ t e o. off 3 0 1 refl _ _ refl refl e }

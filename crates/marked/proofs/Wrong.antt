@@ -4,22 +4,33 @@ use mathlib.Core.Path.{_≡_, refl, _∙_}
 use mathlib.Core.Logic.{inl, inr}
 use mathlib.Core.Bool.{true, false}
 use mathlib.Core.List.{List, [], _∷_}
+use Rattle.rule.specs.declared.Answer.{Answer}
 use Rattle.rule.specs.declared.Outcome.{Outcome}
 use Rattle.rule.specs.declared.Outcome.the-variants.{Found, Nothing, Listed, Refused}
 use Rattle.rule.specs.Answer.{five, numbersOf}
-use Rattle.rule.specs.Refusals.{Line}
+use Rattle.rule.specs.Refusals.{Line, Left, Leaves}
 use Rattle.rule.proofs.Promised.{one-answer}
 use Rattle.rule.proofs.Tests.{on, clash}
 use Rattle.pool.specs.Playing.{Call, set-up, insert, delete, smallest-x, largest-x, smallest-y, list, play, Book, playAll, plainlyAll, AllSmallX}
 use Rattle.pool.proofs.Played as pool-runs
 use Rattle.strips.specs.Runs.{StripCall, opens, closes, first, last, earliest, covers, meets, contains, playStrip, playStrips, plainlyStrips}
 use Rattle.strips.proofs.Runs as strip-runs
-use Rattle.marked.specs.Calls.{Any, pool, strip, Result, promised, lentBy}
+use Rattle.marked.specs.Calls.{Any, pool, strip, Result, changes, asks, writes, promised, lentBy}
 use Rattle.marked.specs.Tables.{linesOf, visitsOf, isRefusal, NoLine, byTable}
 use Rattle.marked.specs.Wrong.{Program, Kind, kindOf, writesOf, Keeps, KeepsAll, AlwaysRefuses, OneAnswer, Idle, Pretends, MadeUp, Wrong, refuses, constant, idle, pretends, made-up, Served, runs, stripRuns}
 use Rattle.marked.specs.Samples.{sample}
 use Rattle.marked.proofs.Tabled.{tabled, none-holds}
 use Rattle.marked.proofs.Samples.{shown}
+
+-- a contract that cites a promise says what `Keeps` asks: of a change, of a question, and of a call that writes into a lent slice
+pub change-keeps : {w : Left} {d : List ℕ} {r : Answer} → Leaves w d r → record { cells = d; lent = []; answer = r } ≡ changes w
+change-keeps h = λ i. record { cells = h .cells i; lent = []; answer = h .answer i }
+
+pub question-keeps : (c : List ℕ) {a r : Answer} → r ≡ a → record { cells = c; lent = []; answer = r } ≡ asks c a
+question-keeps c e = λ i. record { cells = c; lent = []; answer = e i }
+
+pub writing-keeps : (c : List ℕ) {w : Left} {d : List ℕ} {r : Answer} → Leaves w d r → record { cells = c; lent = d; answer = r } ≡ writes c w
+writing-keeps c h = λ i. record { cells = c; lent = h .cells i; answer = h .answer i }
 
 -- the code of an outcome that is no refusal
 served-code : (o : Outcome) (v : ℕ) → isRefusal o ≡ false → Served (numbersOf o v .code)

@@ -36,6 +36,7 @@ asks c a = record { cells = c; lent = []; answer = a }
 abbrev pub writes : List ℕ → Left → Result
 writes c w = record { cells = c; lent = w .cells; answer = w .answer }
 
+-- the promises of the calls over a pool
 abbrev pub poolPromised : List ℕ → Call → Result
 poolPromised c set-up = changes (setUp c)
 poolPromised c (insert p) = changes (insertion c p)
@@ -45,6 +46,7 @@ poolPromised c (largest-x q) = asks c (largestXAnswer c q)
 poolPromised c (smallest-y x0 x1) = asks c (smallestYAnswer c x0 x1)
 poolPromised c (list q out) = writes c (listingLeft c q out)
 
+-- and of the strip calls
 abbrev pub stripPromised : List ℕ → StripCall → Result
 stripPromised c (opens n) = changes (opening c (n .start) (n .end) (n .number))
 stripPromised c (closes n) = changes (closing c (n .start) (n .end) (n .number))

@@ -9,7 +9,7 @@ use Rattle.rule.specs.Plain.{limits}
 use Rattle.pool.specs.Playing.{set-up, insert, delete, smallest-x, largest-x, smallest-y, list}
 use Rattle.strips.specs.Runs.{opens, closes, first, covers}
 use Rattle.strips.specs.Strips.{numberOf}
-use Rattle.marked.specs.Calls.{Any, pool, strip, check, promised, lentBy}
+use Rattle.marked.specs.Calls.{Any, pool, strip, check, Result, promised, lentBy}
 
 -- code, x, y, count listed, visits
 abbrev pub numbers : (code x y count visits : ℕ) → Five
@@ -26,13 +26,27 @@ pub data Step : Type 0 where
   -- the pool's cells are these
   holds : (cells : List ℕ) → Step
 
--- each step holds, and each call works on the cells that the former left
-abbrev pub Follow : List Step → List ℕ → Type 0
-Follow [] c = Unit {0}
-Follow (gives k a ∷ ss) c = (five (promised c k .answer) ≡ a) × Follow ss (promised c k .cells)
-Follow (fills k a out ∷ ss) c = (five (promised c k .answer) ≡ a) × (promised c k .lent ≡ out) × Follow ss (promised c k .cells)
-Follow (reads f n ∷ ss) c = (f c ≡ n) × Follow ss c
-Follow (holds d ∷ ss) c = (c ≡ d) × Follow ss c
+-- what is seen at a step: an answer's five numbers, a number, or cells
+pub data Sight : Type 0 where
+  the-answer : Five → Sight
+  the-number : ℕ → Sight
+  the-cells : List ℕ → Sight
+
+-- what is seen, step by step, by the promises: each call works on the cells that the former left
+abbrev pub seen : List Step → List ℕ → List Sight
+seen [] c = []
+seen (gives k a ∷ ss) c = let w : Result = promised c k in the-answer (five (w .answer)) ∷ seen ss (w .cells)
+seen (fills k a out ∷ ss) c = let w : Result = promised c k in the-answer (five (w .answer)) ∷ the-cells (w .lent) ∷ seen ss (w .cells)
+seen (reads f n ∷ ss) c = the-number (f c) ∷ seen ss c
+seen (holds d ∷ ss) c = the-cells c ∷ seen ss c
+
+-- what is to be seen
+abbrev pub said : List Step → List Sight
+said [] = []
+said (gives k a ∷ ss) = the-answer a ∷ said ss
+said (fills k a out ∷ ss) = the-answer a ∷ the-cells out ∷ said ss
+said (reads f n ∷ ss) = the-number n ∷ said ss
+said (holds d ∷ ss) = the-cells d ∷ said ss
 
 -- a case, with its P-number
 pub data Case : Type 0 where
@@ -64,7 +78,7 @@ pub record Refuses (c : List ℕ) (k : Any) : Type 0 where
 
 -- a case holds: by its steps; or for all cells of its length, and for every call where that is refused
 abbrev pub Holds : Case → Type 0
-Holds (played P n ss) = Follow (gives (pool set-up) done ∷ ss) (lentCells n)
+Holds (played P n ss) = seen (gives (pool set-up) done ∷ ss) (lentCells n) ≡ said (gives (pool set-up) done ∷ ss)
 Holds (serves P n) = (c : List ℕ) → length c ≡ n → Serves c
 Holds (refuses P n) = (c : List ℕ) → length c ≡ n → (k : Any) → Refuses c k
 

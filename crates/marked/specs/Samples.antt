@@ -22,6 +22,7 @@ empty = 1 ∷ 0 ∷ 1 ∷ 0 ∷ 0 ∷ 0 ∷ freeMark ∷ 0 ∷ []
 abbrev pub one : List ℕ
 one = 1 ∷ 1 ∷ 0 ∷ 1 ∷ 1 ∷ 0 ∷ 0 ∷ 0 ∷ []
 
+-- that strip, as a call names it
 abbrev pub only : Named
 only = record { start = 0; end = 0; number = 1 }
 
@@ -35,6 +36,7 @@ pub record Sample : Type 0 where
   pub served : List ℕ
   pub otherwise : List ℕ
 
+-- a sample by its parts
 abbrev pub on : Any → List ℕ → List ℕ → Sample
 on k c d = record { call = k; served = c; otherwise = d }
 

@@ -44,6 +44,7 @@ stripLines c (covers u out) = soundLine c ∷ ownLines (covers u out)
 stripLines c (meets u v out) = soundLine c ∷ ownLines (meets u v out)
 stripLines c (contains u v out) = soundLine c ∷ ownLines (contains u v out)
 
+-- the same for every call
 abbrev pub laterLines : List ℕ → Any → List Line
 laterLines c (pool k) = poolLines c k
 laterLines c (strip k) = stripLines c k

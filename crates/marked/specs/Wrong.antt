@@ -14,12 +14,13 @@ use Rattle.marked.specs.Tables.{isRefusal, visitsOf}
 abbrev pub Program : Type 0
 Program = (before : ℕ) (cells : List ℕ) (call : Any) → Result
 
--- the kinds of call
+-- the kinds of call: over a pool, over strips, the check, and writing the book
 pub data Kind : Type 0 where
   set-ups inserts deletes smallest-xs largest-xs smallest-ys listings : Kind
   openings closings firsts lasts earliests coverings meetings containings : Kind
   checks saves : Kind
 
+-- the kind of a call over a pool
 abbrev pub poolKind : Call → Kind
 poolKind set-up = set-ups
 poolKind (insert p) = inserts
@@ -29,6 +30,7 @@ poolKind (largest-x q) = largest-xs
 poolKind (smallest-y x0 x1) = smallest-ys
 poolKind (list q out) = listings
 
+-- of a strip call
 abbrev pub stripKind : StripCall → Kind
 stripKind (opens n) = openings
 stripKind (closes n) = closings
@@ -39,6 +41,7 @@ stripKind (covers u out) = coverings
 stripKind (meets u v out) = meetings
 stripKind (contains u v out) = containings
 
+-- of any call
 abbrev pub kindOf : Any → Kind
 kindOf (pool k) = poolKind k
 kindOf (strip k) = stripKind k
@@ -124,6 +127,7 @@ runs g t (k ∷ ks) c =
     let r : Run = runs g (suc t) ks (w .cells) in
     record { outcomes = w .answer .outcome ∷ r .outcomes; cells = r .cells }
 
+-- the same of strip calls
 unfoldable pub stripRuns : Program → ℕ → List StripCall → List ℕ → StripRun
 stripRuns g t [] c = record { outcomes = []; cells = c }
 stripRuns g t (k ∷ ks) c =
