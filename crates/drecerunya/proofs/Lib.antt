@@ -1,0 +1,4 @@
+-- What a caller in C is told, and that a promise to one allows one result alone.
+pub mod Numbers
+pub mod Telling
+pub mod Promised

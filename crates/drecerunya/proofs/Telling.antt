@@ -1,0 +1,20 @@
+-- A call that tells an answer tells the promised one, since the answer is the promised one.
+use Prim.Native.Nat.{ℕ}
+use mathlib.Core.Path.{_≡_, ap, _∙_}
+use mathlib.Core.List.{List}
+use Rattle.rule.specs.declared.Answer.{Answer}
+use Rattle.rule.specs.Refusals.{Left, Leaves}
+use Rattle.drecerunya.specs.Told.{codeOf, numbers, Tells, LeavesCode, LeavesTold}
+
+module _ {a : Answer} where
+  pub tells : {w : Answer} {told : List ℕ} {r : ℕ} → a ≡ w → Tells a told r → Tells w told r
+  tells e t = record { code = t .code ∙ ap codeOf e; array = t .array ∙ ap numbers e }
+
+  pub gives : {w : Answer} {r : ℕ} → a ≡ w → r ≡ codeOf a → r ≡ codeOf w
+  gives e t = t ∙ ap codeOf e
+
+  pub leaves-code : {w : Left} {c : List ℕ} {r : ℕ} → Leaves w c a → r ≡ codeOf a → LeavesCode w c r
+  leaves-code l t = record { cells = l .cells; code = gives (l .answer) t }
+
+  pub leaves-told : {w : Left} {c told : List ℕ} {r : ℕ} → Leaves w c a → Tells a told r → LeavesTold w c told r
+  leaves-told l t = record { cells = l .cells; answer = tells (l .answer) t }

@@ -1,0 +1,11 @@
+-- The answer is the promised one, and it is told.
+use Rattle.drecerunya.proofs.Telling.{tells}
+use borrow.Author.Needs.{needs}
+use Rattle.drecerunya.proofs.ask.drecerunya_smallest_y.Statement.{statement}
+use Rattle.drecerunya.proofs.ask.drecerunya_smallest_y.Tie as tie
+
+returns : tie.Need-returns
+returns c = tells (c .before .before .smallest-y .ensures) (c .tell .ensures)
+
+pub drecerunya-smallest-y-spec : {M : Type 1} → statement M
+drecerunya-smallest-y-spec = tie.close (tie.spec (λ c κs. search needs) (λ c κs. search needs) returns)

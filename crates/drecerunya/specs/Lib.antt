@@ -1,0 +1,2 @@
+-- What a caller in C is told.
+pub mod Told

@@ -1,0 +1,48 @@
+// The C interface: a thin function for each call. include/drecerunya.h declares them side by side.
+mod ask;
+mod change;
+mod list;
+mod tell;
+
+pub use ask::drecerunya_earliest_start;
+pub use ask::drecerunya_first_to_end;
+pub use ask::drecerunya_largest_x;
+pub use ask::drecerunya_last_to_end;
+pub use ask::drecerunya_smallest_x;
+pub use ask::drecerunya_smallest_y;
+pub use change::drecerunya_close;
+pub use change::drecerunya_delete;
+pub use change::drecerunya_insert;
+pub use change::drecerunya_open;
+pub use list::drecerunya_list_contains;
+pub use list::drecerunya_list_covers;
+pub use list::drecerunya_list_meets;
+pub use list::drecerunya_listing;
+ghost use mathlib.Core.Path.{_≡_};
+ghost use Rattle.sound.specs.Promises.{setUp, checked};
+ghost use Rattle.book.specs.Promises.{saved};
+ghost use Rattle.drecerunya.specs.Told.{codeOf, LeavesCode, LeavesTold};
+
+// Lays out a pool with nothing stored, whatever its cells held.
+#[no_mangle]
+pub extern "C" fn drecerunya_set_up(pool: &mut [u32]) -> u32
+    ensures { λ r. ⌜ LeavesCode (setUp (now (pool .entry))) (now (pool .exit)) r ⌝ }
+{
+    tell::code_of(pool::set_up(pool))
+}
+
+// Says whether a pool is sound, or gives the code of what is wrong.
+#[no_mangle]
+pub extern "C" fn drecerunya_check(pool: &[u32]) -> u32
+    ensures { λ r. ⌜ r ≡ codeOf (checked (now (pool .entry))) ⌝ }
+{
+    tell::code_of(pool::check(pool))
+}
+
+// Writes the stored book from the first byte on; bytes beyond it stay.
+#[no_mangle]
+pub extern "C" fn drecerunya_save(pool: &[u32], bytes: &mut [u8], answer: &mut [u32; 5]) -> u32
+    ensures { λ r. ⌜ LeavesTold (saved (now (pool .entry)) (now (bytes .entry))) (now (bytes .exit)) (now (answer .exit)) r ⌝ }
+{
+    tell::tell(book::save(pool, bytes), answer)
+}
