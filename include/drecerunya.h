@@ -6,8 +6,9 @@
  *     rt staticlib drecerunya                      writes target/staticlib/libdrecerunya.a
  *     cc -Iinclude program.c target/staticlib/libdrecerunya.a -o program
  *
- * The archive is for x86-64 Linux, takes part in position-independent programs, and needs nothing else: no C library, no heap,
- * no start-up call. It keeps nothing between calls, so calls on different slices may run at the same time.
+ * The archive is for x86-64 Linux, serves position-independent programs and shared libraries, and needs nothing else: no C
+ * library, no heap, no start-up call, and at most about 8 kilobytes of stack. It keeps nothing between calls, so calls on different
+ * pools, and questions on one pool, may run at the same time.
  *
  * THE POOL
  *

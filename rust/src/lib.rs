@@ -19,9 +19,9 @@
 //!
 //! // all three cover slot 12
 //! let mut out = [0; 6];
-//! let Answer::Listed { count, more, .. } = drecerunya::list_covers(&pool, 12, &mut out) else { unreachable!() };
-//! assert_eq!((count, more), (3, false));
-//! let ends: Vec<u32> = drecerunya::pairs(&out, count).map(|p| p.end()).collect();
+//! let listed = drecerunya::list_covers(&pool, 12, &mut out);
+//! assert!(matches!(listed, Answer::Listed { count: 3, more: false, .. }));
+//! let ends: Vec<u32> = drecerunya::pairs(&out, 3).map(|strip| strip.end()).collect();
 //! assert_eq!(ends, [20, 20, 12]);
 //!
 //! // what cannot be done is refused, and changes nothing
