@@ -1,10 +1,22 @@
 -- A call that tells an answer tells the promised one, since the answer is the promised one.
 use Prim.Native.Nat.{ℕ}
 use mathlib.Core.Path.{_≡_, ap, _∙_}
-use mathlib.Core.List.{List}
+use mathlib.Core.List.{List, [], _∷_}
 use Rattle.rule.specs.declared.Answer.{Answer}
+use Rattle.rule.specs.declared.Five.{Five}
+use Rattle.rule.specs.Answer.{five}
 use Rattle.rule.specs.Refusals.{Left, Leaves}
 use Rattle.drecerunya.specs.Told.{codeOf, numbers, Tells, LeavesCode, LeavesTold}
+
+-- law: the code of the answer's numbers
+pub code-told : (a : Answer) {n : Five} → n ≡ five a → n .code ≡ codeOf a
+unfolding codeOf
+code-told a e = ap (λ n. n .code) e
+
+-- law: the five of them, laid side by side
+pub all-told : (a : Answer) {n : Five} → n ≡ five a → Tells a (n .code ∷ n .x ∷ n .y ∷ n .count ∷ n .visits ∷ []) (n .code)
+unfolding numbers
+all-told a e = record { code = code-told a e; array = rw e }
 
 module _ {a : Answer} where
   pub tells : {w : Answer} {told : List ℕ} {r : ℕ} → a ≡ w → Tells a told r → Tells w told r

@@ -1,16 +1,10 @@
 -- What a caller in C is told: an answer as numbers, and what a call leaves in the slices that it was lent.
 use Prim.Native.Nat.{ℕ}
 use mathlib.Core.Path.{_≡_}
-use mathlib.Core.Bool.{Bool, cond}
 use mathlib.Core.List.{List, [], _∷_}
 use Rattle.rule.specs.declared.Answer.{Answer}
 use Rattle.rule.specs.Answer.{five}
-use Rattle.rule.specs.Codes as codes
 use Rattle.rule.specs.Refusals.{Left}
-
--- the code of a listing
-abbrev pub listedCode : Bool → ℕ
-listedCode more = cond more codes.more codes.done
 
 -- the code of an answer
 unfoldable pub codeOf : Answer → ℕ

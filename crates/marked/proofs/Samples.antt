@@ -6,7 +6,8 @@ use mathlib.Core.List.{List}
 use lib.Dec.{eqb}
 use lib.ListN.{getD}
 use borrow.Author.Tests.{eqb-false}
-use Rattle.rule.specs.Answer.{Five, five, numbersOf}
+use Rattle.rule.specs.declared.Five.{Five}
+use Rattle.rule.specs.Answer.{five, numbersOf}
 use Rattle.rule.specs.Cells.{isFree, storedFrom, treeAt, freeSlots, fresh}
 use Rattle.rule.specs.Changes.{goDown, fill, takeOut, met}
 use Rattle.rule.specs.Laid.{lay, inserted, deleted}

@@ -3,7 +3,8 @@ use Prim.Native.Nat.{ℕ, _+_, _*_}
 use mathlib.Core.Path.{_≡_}
 use mathlib.Core.List.{List, [], _∷_}
 use lib.ListN.{length, replicate}
-use Rattle.rule.specs.Answer.{Five, five}
+use Rattle.rule.specs.declared.Five.{Five}
+use Rattle.rule.specs.Answer.{five}
 use Rattle.rule.specs.Cells.{rootOf, freeOf, pairAt, leftAt, rightAt, freeMark}
 use Rattle.rule.specs.Plain.{limits}
 use Rattle.pool.specs.Playing.{set-up, insert, delete, smallest-x, largest-x, smallest-y, list}

@@ -4,7 +4,8 @@ use mathlib.Core.Path.{_≡_}
 use mathlib.Core.Logic.{_≢_, _⊎_}
 use mathlib.Core.Bool.{Bool, true, false}
 use mathlib.Core.List.{List, [], _∷_}
-use Rattle.rule.specs.Answer.{Five, five}
+use Rattle.rule.specs.declared.Five.{Five}
+use Rattle.rule.specs.Answer.{five}
 use Rattle.pool.specs.Playing.{Call, set-up, insert, delete, smallest-x, largest-x, smallest-y, list, Run}
 use Rattle.strips.specs.Runs.{StripCall, opens, closes, first, last, earliest, covers, meets, contains, StripRun}
 use Rattle.marked.specs.Calls.{Any, pool, strip, check, save, Result, promised, lentBy}
