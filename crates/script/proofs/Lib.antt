@@ -4,3 +4,4 @@ pub mod Words
 pub mod Lines
 pub mod Printing
 pub mod Answering
+pub mod Promised

@@ -1,0 +1,10 @@
+-- The promise of a line allows one result alone: the pool's cells, the listing room, the output's bytes and how many of them are told.
+use Prim.Native.Nat.{ℕ}
+use mathlib.Core.Path.{_≡_}
+use mathlib.Core.List.{List}
+use Rattle.rule.proofs.Promised.{one-answer}
+use Rattle.script.specs.declared.Told.{Told}
+use Rattle.script.specs.Script.{After, Answers}
+
+pub one-line : {w : After} {c d o p s t : List ℕ} {q r : Told} → Answers w c o s q → Answers w d p t r → (c ≡ d) × (o ≡ p) × (s ≡ t) × (q ≡ r)
+one-line h k = (one-answer (h .cells) (k .cells), one-answer (h .room) (k .room), one-answer (h .text) (k .text), one-answer (h .told) (k .told))
