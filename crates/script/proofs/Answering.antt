@@ -21,9 +21,9 @@ use Rattle.script.specs.declared.Told.{Told}
 use Rattle.script.specs.declared.Told.the-variants.{Bytes, Short}
 use Rattle.script.specs.Line.{space, askedBy}
 use Rattle.script.specs.Text.{newline, item, row}
-use Rattle.script.specs.Script.{Done, codeRow, foundRow, countRow, matchRows, listRows, changed, found, listed, doneBy, tooShort, lineAnswered, Answers}
+use Rattle.script.specs.Script.{codeRow, foundRow, matchRows, listRows, changed, found, doneBy, tooShort, lineAnswered, Answers}
 use Rattle.script.specs.Writing.{Puts, Prints, stripItems}
-use Rattle.script.proofs.Printing.{puts-then, item-few, strip-few, rows-few, append-assoc}
+use Rattle.script.proofs.Printing.{puts-then, item-few, rows-few, append-assoc}
 
 -- law: what may be too short
 pub few-bytes : (room o : ℕ) → o < 55 → true ≡ ltb o (55 + 33 * (room / 2))

@@ -5,3 +5,5 @@ pub mod Lines
 pub mod Printing
 pub mod Answering
 pub mod Promised
+pub mod Decimal
+pub mod Spelling

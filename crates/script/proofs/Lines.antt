@@ -1,14 +1,12 @@
 -- A line is its letter and the numbers behind it.
 use Prim.Native.Nat.{ℕ, _≤_, _<_}
 use mathlib.Core.Path.{_≡_, refl, sym, _∙_}
-use mathlib.Core.Bool.{true, false}
 use mathlib.Core.List.{List, [], _∷_, map}
 use native.Mathlib.Omega.{arith}
 use lib.Dec.{eqb}
 use lib.ListN.{length, getD, drop}
 use borrow.Author.Tests.{eqb-true, eq-eqb, ne-eqb, lt-ltb, le-ltb}
 use Rattle.rule.proofs.Tests.{on}
-use Rattle.script.specs.declared.Asked.{Asked}
 use Rattle.script.specs.declared.Asked.the-variants.{Malformed}
 use Rattle.script.specs.declared.line.Numbers.{Numbers}
 use Rattle.script.specs.declared.line.Numbers.the-variants.{Other, One, Two, Three}

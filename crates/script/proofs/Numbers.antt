@@ -1,17 +1,16 @@
 -- Digits, read one after the other.
 use Prim.Native.Nat.{ℕ, suc, _+_, _*_, _-_, _≤_, _<_}
-use mathlib.Core.Path.{_≡_, refl, sym, _∙_}
-use mathlib.Core.Bool.{Bool, true, false, cond, not, _&&_}
+use mathlib.Core.Path.{_≡_}
+use mathlib.Core.Bool.{true, false, _&&_}
 use mathlib.Core.List.{List, [], _∷_}
 use native.Mathlib.Omega.{arith}
 use lib.Dec.{leb, ltb}
 use lib.ListN.{length, getD, drop, drop-of-length-le}
 use lib.Seq.{drop-cons}
 use borrow.Author.Tests.{ltb-true, ltb-false, leb-true, lt-ltb, le-ltb, le-leb, lt-leb}
-use Rattle.rule.proofs.Tests.{on, both, and-true, and-false}
-use Rattle.script.specs.declared.line.Number.{Number}
+use Rattle.rule.proofs.Tests.{on, both, and-false}
 use Rattle.script.specs.declared.line.Number.the-variants.{Is, Not}
-use Rattle.script.specs.Line.{isDigit, allDigits, valueFrom, value, leadingZero, isNumber}
+use Rattle.script.specs.Line.{isDigit, allDigits, valueFrom, leadingZero, isNumber}
 use Rattle.script.specs.Reading.{numberIf, digitsOf, digitsFrom, numberOf}
 
 -- the largest number

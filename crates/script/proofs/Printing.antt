@@ -112,7 +112,7 @@ strip-few x y after =
 pub room-behind-strip : (o o1 : List ℕ) (at r x y after k : ℕ) → Puts o at (stripItems x y after) o1 r → at + 33 + k ≤ length o → r + k ≤ length o1
 room-behind-strip o o1 at r x y after k p h = let f = strip-few x y after in let e = p .end in let l = puts-length p in omega arith
 
-append-none : (vs : List ℕ) → vs ++ [] ≡ vs
+pub append-none : (vs : List ℕ) → vs ++ [] ≡ vs
 append-none [] = refl
 append-none (v ∷ vs) = ap (λ us. v ∷ us) (append-none vs)
 

@@ -52,7 +52,7 @@ no-number : (ok : Bool) (n : ℕ) → numberIf ok n ≡ Not → ok ≡ false
 no-number true n e = cc
 no-number false n e = refl
 
-append-one : (vs ws : List ℕ) (a : ℕ) → (vs ++ (a ∷ [])) ++ ws ≡ vs ++ (a ∷ ws)
+pub append-one : (vs ws : List ℕ) (a : ℕ) → (vs ++ (a ∷ [])) ++ ws ≡ vs ++ (a ∷ ws)
 append-one [] ws a = refl
 append-one (v ∷ vs) ws a = ap (λ us. v ∷ us) (append-one vs ws a)
 
@@ -97,7 +97,7 @@ led-some : (b : ℕ) (ws : List (List ℕ)) → led b ws ≡ [] → ⊥
 led-some b [] e = true≢false cc
 led-some b (w ∷ ws) e = true≢false cc
 
-some-word : (u : List ℕ) → words u ≡ [] → ⊥
+pub some-word : (u : List ℕ) → words u ≡ [] → ⊥
 unfolding words
 some-word [] e = true≢false cc
 some-word (b ∷ bs) e = on (eqb b space) (λ t. let k = rw t at e in true≢false cc) (λ f. led-some b (words bs) (rw f at e))

@@ -1,7 +1,7 @@
 -- How the code prints: bytes are stored one after the other, and the place behind them is answered.
 use Prim.Native.Nat.{ℕ, _+_, _/_, _%_, _≤_}
 use mathlib.Core.Path.{_≡_}
-use mathlib.Core.List.{List, [], _∷_, _++_}
+use mathlib.Core.List.{List, _++_}
 use lib.ListN.{length}
 use Rattle.rule.specs.Placed.{placed}
 use Rattle.script.specs.Line.{space}

@@ -1,0 +1,33 @@
+-- The line that asks for something: its letter, and its numbers in decimal after single spaces.
+use Prim.Native.Nat.{ℕ}
+use mathlib.Core.List.{List, [], _∷_, _++_}
+use Rattle.script.specs.declared.Asked.{Asked}
+use Rattle.script.specs.declared.Asked.the-variants.{Open, Close, First, Last, Covers, Malformed}
+use Rattle.script.specs.Line.{space}
+use Rattle.script.specs.Text.{decimal}
+
+-- each number after a space
+unfoldable pub spaced : List ℕ → List ℕ
+spaced [] = []
+spaced (n ∷ ns) = space ∷ (decimal n ++ spaced ns)
+
+-- the numbers that are asked with
+abbrev pub numbersOf : Asked → List ℕ
+numbersOf (Open start end number) = start ∷ end ∷ number ∷ []
+numbersOf (Close start end number) = start ∷ end ∷ number ∷ []
+numbersOf (First u) = u ∷ []
+numbersOf (Last u e) = u ∷ e ∷ []
+numbersOf (Covers u) = u ∷ []
+numbersOf Malformed = []
+
+-- o, c, f, l, a
+abbrev pub letterOf : Asked → ℕ
+letterOf (Open start end number) = 111
+letterOf (Close start end number) = 99
+letterOf (First u) = 102
+letterOf (Last u e) = 108
+letterOf (Covers u) = 97
+letterOf Malformed = 0
+
+abbrev pub spelled : Asked → List ℕ
+spelled k = letterOf k ∷ spaced (numbersOf k)
