@@ -1,0 +1,29 @@
+-- `compare::litter` is safe and ends: the slices keep their lengths, and the measure is the cells that are left.
+use borrow.Author.Needs.{needs}
+use lib.ListN.{length}
+use Prim.Native.Nat.{_-_}
+use mathlib.Core.Path.{_≡_}
+use Rattle.compare.proofs.litter.Statement.{statement}
+use Rattle.compare.proofs.litter.Tie as tie
+
+abbrev Inv-loop : tie.InvT-loop
+Inv-loop cells₀ tally₀ i₀ cells tally i = (length cells ≡ length cells₀) × (length tally ≡ length tally₀)
+
+abbrev μ-loop : tie.MeasureT-loop
+μ-loop cells₀ tally₀ i₀ cells tally i = length cells - i
+
+pub litter-spec : {M : Type 1} → statement M
+litter-spec =
+    tie.close
+    (tie.spec
+    Inv-loop
+    μ-loop
+    (λ c. search needs)
+    (λ c κs. search needs)
+    (λ c κs. search needs)
+    (λ c. search needs)
+    (λ c. search needs)
+    (λ c. search needs)
+    (λ c. search needs)
+    (λ c. search needs)
+    (λ c. search needs))

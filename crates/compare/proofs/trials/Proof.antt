@@ -1,0 +1,31 @@
+-- `compare::trials` is safe and ends: the slices keep their lengths, and the measure is the turns that are left.
+use borrow.Author.Needs.{needs}
+use lib.ListN.{length}
+use Prim.Native.Nat.{_-_}
+use mathlib.Core.Path.{_≡_}
+use Rattle.compare.proofs.trials.Statement.{statement}
+use Rattle.compare.proofs.trials.Tie as tie
+
+abbrev Inv-loop : tie.InvT-loop
+Inv-loop cells₀ list₀ tally₀ slots turns counter₀ cells list tally counter = (length cells ≡ length cells₀) × ((length list ≡ length list₀) × (length tally ≡ length tally₀))
+
+abbrev μ-loop : tie.MeasureT-loop
+μ-loop cells₀ list₀ tally₀ slots turns counter₀ cells list tally counter = turns - counter
+
+pub trials-spec : {M : Type 1} → statement M
+trials-spec =
+    tie.close
+    (tie.spec
+    Inv-loop
+    μ-loop
+    (λ c. search needs)
+    (λ c κs. search needs)
+    (λ c κs. search needs)
+    (λ c κs. search needs)
+    (λ c. search needs)
+    (λ c. search needs)
+    (λ c. search needs)
+    (λ c. search needs)
+    (λ c. search needs)
+    (λ c. search needs)
+    (λ c. search needs))
