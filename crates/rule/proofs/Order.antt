@@ -1,5 +1,5 @@
 -- Beating is an order that decides between any two pairs with different x.
-use Prim.Native.Nat.{ℕ, _≤_}
+use Prim.Native.Nat.{ℕ, _≤_, _<_}
 use mathlib.Core.Path.{_≡_, refl, sym, _∙_}
 use mathlib.Core.Logic.{_≢_, _⊎_, inl, inr, ⊎-elim}
 use mathlib.Core.Bool.{Bool, true, false, true≢false, _&&_, _||_}
@@ -8,6 +8,7 @@ use lib.Dec.{ltb, eqb}
 use borrow.Author.Tests.{ltb-true, ltb-false, eqb-true, lt-ltb, le-ltb, eq-eqb}
 use Rattle.rule.specs.declared.Pair.{Pair}
 use Rattle.rule.specs.Pairs.{Beats, lower, level, beats}
+use Rattle.rule.specs.Shape.{keyOf, Keyed}
 use Rattle.rule.proofs.Tests.{test, on, clash}
 
 pub pair-ext : {p q : Pair} → p .x ≡ q .x → p .y ≡ q .y → p ≡ q
@@ -71,7 +72,16 @@ beats-level p q e f =
     let g = not-before q p f (sym d) in
     pair-ext (omega arith) d
 
--- on equal y the smaller x decides
-pub beats-by-x : (p q : Pair) → q .y ≤ p .y → p .y ≤ q .y → ltb (p .x) (q .x) ≡ beats p q
-unfolding beats
-beats-by-x p q h k = rw (le-ltb (p .y) (q .y) h, eq-eqb (p .y) (q .y) (omega arith))
+-- law: of two keys the smaller is that of the pair that beats
+pub beats-by-key : (p q : Pair) {k l : ℕ} → Keyed p k → Keyed q l → ltb k l ≡ beats p q
+beats-by-key p q a b = rw (a .key, b .key) (on (ltb (keyOf p) (keyOf q))
+    (λ t. t ∙ sym (true-beats (smaller-key (ltb-true (keyOf p) (keyOf q) t))))
+    (λ f. f ∙ sym (not-smaller (ltb-false (keyOf p) (keyOf q) f))))
+  where
+    smaller-key : keyOf p < keyOf q → Beats p q
+    smaller-key l = on (ltb (p .y) (q .y)) (λ t. lower (ltb-true _ _ t)) (λ f. let g = ltb-false (p .y) (q .y) f in level (omega (arith, l, g, a .low, b .low)) (omega (arith, l, g, a .low, b .low)))
+    no : keyOf q ≤ keyOf p → Beats p q → ⊥
+    no l (lower h) = omega (arith, h, l, a .low, b .low)
+    no l (level h g) = omega (arith, h, g, l)
+    not-smaller : keyOf q ≤ keyOf p → beats p q ≡ false
+    not-smaller l = on (beats p q) (λ t. absurd (no l (beats-true p q t))) (λ f. f)

@@ -4,7 +4,7 @@ ghost use lib.Dec.{ltb};
 ghost use Rattle.rule.specs.Answer.{five};
 ghost use Rattle.rule.specs.Pairs.{beats};
 ghost use Rattle.rule.specs.Stripe.{Low, rootStripe, middle, leftPart, rightPart, partOf, holds};
-ghost use Rattle.rule.specs.Shape.{stripeOf};
+ghost use Rattle.rule.specs.Shape.{stripeOf, Keyed};
 
 pub mod codes;
 
@@ -14,18 +14,19 @@ pub struct Pair {
     pub y: u32,
 }
 
+// The y and behind it the x, as one number.
+fn key(x: u32, y: u32) -> u64
+    ensures { λ r. ⌜ Keyed (record { x = x; y = y }) r ⌝ }
+{
+    y as u64 * 4294967296 + x as u64
+}
+
 impl Pair {
     // A pair beats another if its y is smaller, or y is equal and its x is smaller.
     pub fn beats(self, other: Pair) -> bool
         ensures { λ r. ⌜ r ≡ beats self other ⌝ }
     {
-        if self.y < other.y {
-            return true;
-        }
-        if other.y < self.y {
-            return false;
-        }
-        self.x < other.x
+        key(self.x, self.y) < key(other.x, other.y)
     }
 }
 

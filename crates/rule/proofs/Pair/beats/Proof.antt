@@ -1,19 +1,13 @@
--- Each way out is one way of the definition.
-use mathlib.Core.Path.{sym}
-use native.Mathlib.Omega.{arith}
-use Rattle.rule.specs.Pairs.{lower}
-use Rattle.rule.proofs.Order.{true-beats, false-beats, beats-by-x}
+-- The smaller key is that of the pair that beats.
+use Rattle.rule.proofs.Order.{beats-by-key}
+use borrow.Author.Needs.{needs}
 use Rattle.rule.proofs.Pair.beats.Statement.{statement}
 use Rattle.rule.proofs.Pair.beats.Tie as tie
 
 returns : tie.Need-returns
-returns c = sym (true-beats (lower (omega arith)))
-
-returns-2 : tie.Need-returns-2
-returns-2 c = sym (false-beats (lower (omega arith)))
-
-returns-3 : tie.Need-returns-3
-returns-3 c = beats-by-x _ _ (c .before .before .before .before .before .if1 .left) (c .before .before .if2 .left)
+returns c =
+    let p1 = c .before in
+    beats-by-key _ _ (p1 .key .ensures) (c .key2 .ensures)
 
 pub beats-spec : {M : Type 1} → statement M
-beats-spec = tie.close (tie.spec returns returns-2 returns-3)
+beats-spec = tie.close (tie.spec (λ c κs. search needs) (λ c κs. search needs) returns)
