@@ -66,7 +66,7 @@ fn put_pairs(pool: &[u32], bytes: &mut [u8])
     let mut at = HEAD;
     let mut x0: u32 = 0;
     loop {
-        let w = questions::smallest_x(pool, x0, LAST, LAST);
+        let w = nearest::smallest_x(pool, x0, LAST, LAST);
         let f = w.finding;
         let Finding::Found(p) = f else {
             break;

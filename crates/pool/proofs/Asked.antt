@@ -25,8 +25,8 @@ use Rattle.rule.proofs.Decided.{sound-tree}
 use Rattle.rule.proofs.Lists.{listing-pairs, listing-more}
 use Rattle.rule.proofs.Stored.{stored-mem}
 use Rattle.rule.proofs.Tables.{left-refused, left-passed, left-none, answer-refused, answer-passed, answer-none}
-use Rattle.questions.specs.declared.list_walk.Listing.{Listing}
-use Rattle.questions.specs.Listing.{Lent}
+use Rattle.listing.specs.declared.Listing.{Listing}
+use Rattle.listing.specs.Listing.{Lent}
 use Rattle.sound.specs.Promises.{lengthLine, soundLine}
 use Rattle.sound.proofs.Lines.{left-well, answer-well}
 use Rattle.pool.specs.Asking.{treeOf, backwardsLine, answered, smallestXAnswer, largestXAnswer, smallestYAnswer, matchesOf, listedBy, listingLeft}

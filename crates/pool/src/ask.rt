@@ -35,7 +35,7 @@ fn smallest_x_sound(pool: &[u32], x0: u32, x1: u32, y1: u32) -> Answer
     if x1 < x0 {
         return sound::refused(codes::BACKWARDS);
     }
-    let w = questions::smallest_x(pool, x0, x1, y1);
+    let w = nearest::smallest_x(pool, x0, x1, y1);
     answered(w)
 }
 
@@ -58,7 +58,7 @@ fn largest_x_sound(pool: &[u32], x0: u32, x1: u32, y1: u32) -> Answer
     if x1 < x0 {
         return sound::refused(codes::BACKWARDS);
     }
-    let w = questions::largest_x(pool, x0, x1, y1);
+    let w = nearest::largest_x(pool, x0, x1, y1);
     answered(w)
 }
 
@@ -81,7 +81,7 @@ fn smallest_y_sound(pool: &[u32], x0: u32, x1: u32) -> Answer
     if x1 < x0 {
         return sound::refused(codes::BACKWARDS);
     }
-    let w = questions::smallest_y(pool, x0, x1);
+    let w = lowest::smallest_y(pool, x0, x1);
     answered(w)
 }
 

@@ -1,5 +1,5 @@
 // The listing, into a second lent slice.
-use questions::Listing;
+use listing::Listing;
 use rule::Answer;
 use rule::Outcome;
 use rule::codes;
@@ -30,7 +30,7 @@ fn listing_sound(pool: &[u32], out: &mut [u32], x0: u32, x1: u32, y1: u32) -> An
     if x1 < x0 {
         return sound::refused(codes::BACKWARDS);
     }
-    let l = questions::list(pool, out, x0, x1, y1);
+    let l = listing::list(pool, out, x0, x1, y1);
     listed(l)
 }
 

@@ -1,0 +1,172 @@
+// The listing over a sound pool: the walk counts the matches met so far, which is the place of the next one.
+use rule::Pair;
+use rule::Stripe;
+ghost use mathlib.Core.Path.{_≡_};
+ghost use mathlib.Core.Bool.{false, cond};
+ghost use mathlib.Core.List.{[]};
+ghost use Prim.Native.Nat.{suc, _-_, _≤_};
+ghost use Rattle.rule.specs.Cells.{rootOf, treeAt};
+ghost use Rattle.rule.specs.Plain.{limits, inRange};
+ghost use Rattle.rule.specs.Shape.{stripeOf};
+ghost use Rattle.rule.specs.Sound.{Sound, allLevels};
+ghost use Rattle.rule.specs.Stripe.{rootStripe};
+ghost use Rattle.rule.specs.Walks.{listed, listOwn, listing, roomOf};
+ghost use Rattle.questions.specs.Walking.{Asked};
+ghost use Rattle.listing.specs.Listing.{Put, Lists, Lent};
+
+// The cells of a listed pair: x, y.
+const PER_PAIR: usize = 2;
+
+// What a listing says of itself: how many pairs it wrote, whether a match found no room, and the slots that it visited.
+pub struct Listing {
+    pub count: u32,
+    pub more: bool,
+    pub visits: u32,
+}
+
+// How many pairs a lent slice has room for.
+fn room_of(out: &[u32]) -> usize
+    ensures { λ r. ⌜ r ≡ roomOf (now (out .entry)) ⌝ }
+{
+    out.len() / PER_PAIR
+}
+
+// The slot's own pair, if it is in range, is written where there is room. It is counted also where there is none: a count beyond the room stops the walk.
+fn list_own(out: &mut [u32], p: Pair, x0: u32, x1: u32, count: usize) -> usize
+    requires { ⌜ count ≤ roomOf (now out) ⌝ }
+    ensures { λ r. ⌜ Put (now (out .entry)) count (listOwn (inRange x0 x1 p) (roomOf (now (out .entry)) - count) p) (now (out .exit)) r ⌝ }
+{
+    if p.x < x0 {
+        return count;
+    }
+    if x1 < p.x {
+        return count;
+    }
+    if room_of(out) <= count {
+        return count + 1;
+    }
+    let at = count * PER_PAIR;
+    out[at] = p.x;
+    out[at + 1] = p.y;
+    count + 1
+}
+
+// The listing at a slot, with so many levels below it.
+fn list_at(
+    pool: &[u32],
+    out: &mut [u32],
+    levels: u32,
+    slot: u32,
+    at: Stripe,
+    x0: u32,
+    x1: u32,
+    y1: u32,
+    count: usize,
+    visits: &mut u32,
+) -> usize
+    requires { ⌜ (1 ≤ slot) × Asked (now pool) (suc levels) slot (stripeOf at) (now visits) × (count ≤ roomOf (now out)) ⌝ }
+    ensures { λ r. ⌜ Lists (now (out .entry)) count (now (visits .entry)) (listing (limits x0 x1 y1) (stripeOf at) (treeAt (now (pool .entry)) (suc levels) slot) (roomOf (now (out .entry)) - count)) (now (out .exit)) r (now (visits .exit)) ⌝ }
+{
+    *visits += 1;
+    let p = cells::pair(pool, slot);
+    if y1 < p.y {
+        return count;
+    }
+    let room = room_of(out);
+    let own = list_own(out, p, x0, x1, count);
+    if room < own {
+        return own;
+    }
+    let left = cells::left(pool, slot);
+    let right = cells::right(pool, slot);
+    let l = list_son(
+        pool,
+        out,
+        levels,
+        left,
+        at.goes_left(x0),
+        at.left(),
+        x0,
+        x1,
+        y1,
+        own,
+        visits,
+    );
+    if room < l {
+        return l;
+    }
+    list_son(
+        pool,
+        out,
+        levels,
+        right,
+        !at.goes_left(x1),
+        at.right(),
+        x0,
+        x1,
+        y1,
+        l,
+        visits,
+    )
+}
+
+// The listing at a son's place, if the son is there and asked.
+fn list_son(
+    pool: &[u32],
+    out: &mut [u32],
+    levels: u32,
+    slot: u32,
+    go: bool,
+    at: Stripe,
+    x0: u32,
+    x1: u32,
+    y1: u32,
+    count: usize,
+    visits: &mut u32,
+) -> usize
+    requires { ⌜ Asked (now pool) levels slot (stripeOf at) (now visits) × (count ≤ roomOf (now out)) ⌝ }
+    ensures { λ r. ⌜ Lists (now (out .entry)) count (now (visits .entry)) (cond go (listing (limits x0 x1 y1) (stripeOf at) (treeAt (now (pool .entry)) levels slot) (roomOf (now (out .entry)) - count)) (listed [] false 0)) (now (out .exit)) r (now (visits .exit)) ⌝ }
+{
+    if slot == 0 {
+        return count;
+    }
+    if go {
+        return list_at(pool, out, levels - 1, slot, at, x0, x1, y1, count, visits);
+    }
+    count
+}
+
+// Lists the pairs with x0 ≤ x ≤ x1 and y ≤ y1 into a lent slice, from its start, as far as there is room.
+pub fn list(pool: &[u32], out: &mut [u32], x0: u32, x1: u32, y1: u32) -> Listing
+    requires { ⌜ Sound (now pool) ⌝ }
+    ensures { λ r. ⌜ Lent (now (out .entry)) (listing (limits x0 x1 y1) rootStripe (treeAt (now (pool .entry)) allLevels (rootOf (now (pool .entry)))) (roomOf (now (out .entry)))) (now (out .exit)) r ⌝ }
+{
+    let mut visits: u32 = 0;
+    let room = room_of(out);
+    let root = cells::root(pool);
+    let count = list_son(
+        pool,
+        out,
+        Stripe::LEVELS + 1,
+        root,
+        true,
+        Stripe::root(),
+        x0,
+        x1,
+        y1,
+        0,
+        &mut visits,
+    );
+    if room < count {
+        return Listing {
+            count: room as u32,
+            more: true,
+            visits,
+        };
+    }
+    Listing {
+        count: count as u32,
+        more: false,
+        visits,
+    }
+}

@@ -1,0 +1,176 @@
+-- A slot answers for itself or by its sons; a son that is asked has a level less.
+use Prim.Native.Nat.{ℕ, _+_, _*_, _<_}
+use native.Mathlib.Omega.{arith}
+use Rattle.questions.proofs.Places.{there, one-more}
+use Rattle.lowest.proofs.YWalk.{left-deep, right-deep, left-here, right-here, right-then, both, left-only, right-only, neither, sons-asked, own-pair, below}
+use borrow.Author.Needs.{needs}
+use borrow.Fn.Kinds.{In}
+use borrow.Fn.PlainCycle.{Measures, is, falls, and}
+use Rattle.lowest.proofs.better_son.Reads as better-son
+use Rattle.lowest.proofs.better_son.Kinds as better-son-kinds
+use Rattle.lowest.proofs.+better_son+smallest_y_at.Lts-better_son as better-son-lts
+use Rattle.lowest.proofs.smallest_y_at.Reads as smallest-y-at
+use Rattle.lowest.proofs.smallest_y_at.Kinds as smallest-y-at-kinds
+use Rattle.lowest.proofs.+better_son+smallest_y_at.Lts-smallest_y_at as smallest-y-at-lts
+use Rattle.cells.proofs.left.Reads as left-reads
+use Rattle.cells.proofs.pair.Reads as pair-reads
+use Rattle.cells.proofs.right.Reads as right-reads
+use Rattle.lowest.proofs.asks.Reads as asks-reads
+use Rattle.lowest.proofs.in_range.Reads as in-range-reads
+use Rattle.lowest.proofs.lower.Reads as lower-reads
+use Rattle.rule.proofs.Stripe.goes_left.Reads as goes-left-reads
+use Rattle.rule.proofs.Stripe.left.Reads as Stripe-left-reads
+use Rattle.rule.proofs.Stripe.right.Reads as Stripe-right-reads
+use Rattle.lowest.proofs.+better_son+smallest_y_at.{statement}
+use Rattle.lowest.proofs.+better_son+smallest_y_at.Tie.{close}
+
+abbrev μ-better-son : Measures 2 better-son-kinds.ps ℕ
+μ-better-son κs a = 2 * (a .1 .0)
+
+abbrev μ-smallest-y-at : Measures 2 smallest-y-at-kinds.ps ℕ
+μ-smallest-y-at κs a = 2 * (a .1 .0) + 1
+
+abbrev better-son-at : ℕ → In 2 better-son-kinds.ps
+better-son-at t =
+    and 2 better-son-kinds.ps (is 2 better-son-kinds.ps μ-better-son t) better-son.Pre
+
+abbrev better-son-below : ℕ → In 2 better-son-kinds.ps
+better-son-below t =
+    and 2 better-son-kinds.ps (falls 2 better-son-kinds.ps _<_ μ-better-son t) better-son.Pre
+
+abbrev smallest-y-at-at : ℕ → In 2 smallest-y-at-kinds.ps
+smallest-y-at-at t =
+    and 2 smallest-y-at-kinds.ps (is 2 smallest-y-at-kinds.ps μ-smallest-y-at t) smallest-y-at.Pre
+
+abbrev smallest-y-at-below : ℕ → In 2 smallest-y-at-kinds.ps
+smallest-y-at-below t =
+    and
+    2
+    smallest-y-at-kinds.ps
+    (falls 2 smallest-y-at-kinds.ps _<_ μ-smallest-y-at t)
+    smallest-y-at.Pre
+
+abbrev better-son-calls : ℕ → better-son-lts.Claims
+better-son-calls t = (goes-left-reads.Asked, goes-left-reads.Learnt, asks-reads.Asked, asks-reads.Learnt, Stripe-left-reads.Asked, Stripe-left-reads.Learnt, smallest-y-at-below t, smallest-y-at.Post, Stripe-right-reads.Asked, Stripe-right-reads.Learnt, lower-reads.Asked, lower-reads.Learnt)
+
+abbrev smallest-y-at-calls : ℕ → smallest-y-at-lts.Claims
+smallest-y-at-calls t = (pair-reads.Asked, pair-reads.Learnt, in-range-reads.Asked, in-range-reads.Learnt, left-reads.Asked, left-reads.Learnt, right-reads.Asked, right-reads.Learnt, better-son-below t, better-son.Post)
+
+better-son-goes-left-requires : (t : ℕ) → better-son-lts.Need-goes-left-requires (better-son-calls t) (better-son-at t) better-son.Post
+better-son-goes-left-requires t c κs = c .before .pre .1 .low
+
+better-son-goes-left-requires-2 : (t : ℕ) → better-son-lts.Need-goes-left-requires-2 (better-son-calls t) (better-son-at t) better-son.Post
+better-son-goes-left-requires-2 t c κs = c .before .before .before .pre .1 .low
+
+better-son-sub-smallest-y-at : (t : ℕ) → better-son-lts.Need-sub-smallest-y-at (better-son-calls t) (better-son-at t) better-son.Post
+better-son-sub-smallest-y-at t c = let d = left-deep _ _ _ _ _ _ _ _ (c .before .before .before .before .before .before .pre .1) _ (c .before .before .before .before .goes-left .ensures) _ (c .before .before .before .asks .ensures) _ (c .before .before .goes-left2 .ensures) _ (c .before .asks2 .ensures) (c .if1 .taken) in omega arith
+
+better-son-left-requires : (t : ℕ) → better-son-lts.Need-left-requires (better-son-calls t) (better-son-at t) better-son.Post
+better-son-left-requires t c κs = c .before .before .before .before .before .before .pre .1 .low
+
+better-son-smallest-y-at-requires : (t : ℕ) → better-son-lts.Need-smallest-y-at-requires (better-son-calls t) (better-son-at t) better-son.Post
+better-son-smallest-y-at-requires t c κs =
+    let d = left-deep _ _ _ _ _ _ _ _ (c .before .before .before .before .before .before .before .before .pre .1) _ (c .before .before .before .before .before .before .goes-left .ensures) _ (c .before .before .before .before .before .asks .ensures) _ (c .before .before .before .before .goes-left2 .ensures) _ (c .before .before .before .asks2 .ensures) (c .before .before .if1 .taken) in
+    (omega (arith, c .before .before .before .before .before .before .before .before .pre .0), left-here _ _ _ _ _ _ _ _ (c .before .before .before .before .before .before .before .before .pre .1) _ (c .before .before .before .before .before .before .goes-left .ensures) _ (c .before .before .before .before .before .asks .ensures) _ (c .before .before .before .before .goes-left2 .ensures) _ (c .before .before .before .asks2 .ensures) _ (c .before .before .if1 .taken) (c .before .left .ensures))
+
+better-son-sub-smallest-y-at-2 : (t : ℕ) → better-son-lts.Need-sub-smallest-y-at-2 (better-son-calls t) (better-son-at t) better-son.Post
+better-son-sub-smallest-y-at-2 t c = let d = right-deep _ _ _ _ _ _ _ _ (c .before .before .before .before .before .before .before .before .before .before .pre .1) _ (c .before .before .before .before .before .before .before .before .goes-left .ensures) _ (c .before .before .before .before .before .before .before .asks .ensures) _ (c .before .before .before .before .before .before .goes-left2 .ensures) _ (c .before .before .before .before .before .asks2 .ensures) (c .if2 .taken) in omega arith
+
+better-son-right-requires : (t : ℕ) → better-son-lts.Need-right-requires (better-son-calls t) (better-son-at t) better-son.Post
+better-son-right-requires t c κs = c .before .before .before .before .before .before .before .before .before .before .pre .1 .low
+
+better-son-smallest-y-at-requires-2 : (t : ℕ) → better-son-lts.Need-smallest-y-at-requires-2 (better-son-calls t) (better-son-at t) better-son.Post
+better-son-smallest-y-at-requires-2 t c κs =
+    let d = right-deep _ _ _ _ _ _ _ _ (c .before .before .before .before .before .before .before .before .before .before .before .before .pre .1) _ (c .before .before .before .before .before .before .before .before .before .before .goes-left .ensures) _ (c .before .before .before .before .before .before .before .before .before .asks .ensures) _ (c .before .before .before .before .before .before .before .before .goes-left2 .ensures) _ (c .before .before .before .before .before .before .before .asks2 .ensures) (c .before .before .if2 .taken) in
+    (omega (arith, c .before .before .before .before .before .before .before .before .before .before .before .before .pre .0), right-then _ _ _ _ _ _ _ _ (c .before .before .before .before .before .before .before .before .before .before .before .before .pre .1) _ (c .before .before .before .before .before .before .before .before .before .before .goes-left .ensures) _ (c .before .before .before .before .before .before .before .before .before .asks .ensures) _ (c .before .before .before .before .before .before .before .before .goes-left2 .ensures) _ (c .before .before .before .before .before .before .before .asks2 .ensures) _ (c .before .before .before .before .before .before .if1 .taken) (c .before .before .before .before .before .left .ensures) _ _ (c .before .before .before .smallest-y-at .ensures) _ (c .before .before .if2 .taken) (c .before .right .ensures))
+
+better-son-lower-requires : (t : ℕ) → better-son-lts.Need-lower-requires (better-son-calls t) (better-son-at t) better-son.Post
+better-son-lower-requires t c κs =
+    let p4 = c .before .before .before .before in
+    (p4 .smallest-y-at .ensures .some, c .smallest-y-at2 .ensures .some)
+
+better-son-returns : (t : ℕ) → better-son-lts.Need-returns (better-son-calls t) (better-son-at t) better-son.Post
+better-son-returns t c =
+    let p1 = c .before in let p3 = p1 .before .before in let p4 = p3 .before in let p5 = p4 .before in let p7 = p5 .before .before in let p8 = p7 .before in let p9 = p8 .before in let p10 = p9 .before in let p11 = p10 .before in let p12 = p11 .before in let p14 = p12 .before .before in
+    both _ _ _ _ _ _ _ _ (p14 .pre .1) _ (p12 .goes-left .ensures) _ (p11 .asks .ensures) _ (p10 .goes-left2 .ensures) _ (p9 .asks2 .ensures) _ (p8 .if1 .taken) (p7 .left .ensures) _ _ (p5 .smallest-y-at .ensures) _ (p4 .if2 .taken) (p3 .right .ensures) _ _ _ (p1 .smallest-y-at2 .ensures) (c .lower .ensures)
+
+better-son-returns-2 : (t : ℕ) → better-son-lts.Need-returns-2 (better-son-calls t) (better-son-at t) better-son.Post
+better-son-returns-2 t c =
+    let p1 = c .before in let p3 = p1 .before .before in let p4 = p3 .before in let p5 = p4 .before in let p6 = p5 .before in let p7 = p6 .before in let p8 = p7 .before in let p10 = p8 .before .before in
+    left-only _ _ _ _ _ _ _ _ (p10 .pre .1) _ (p8 .goes-left .ensures) _ (p7 .asks .ensures) _ (p6 .goes-left2 .ensures) _ (p5 .asks2 .ensures) _ (p4 .if1 .taken) (p3 .left .ensures) _ _ (p1 .smallest-y-at .ensures) (c .if2 .left)
+
+better-son-sub-smallest-y-at-3 : (t : ℕ) → better-son-lts.Need-sub-smallest-y-at-3 (better-son-calls t) (better-son-at t) better-son.Post
+better-son-sub-smallest-y-at-3 t c = let d = right-deep _ _ _ _ _ _ _ _ (c .before .before .before .before .before .before .before .pre .1) _ (c .before .before .before .before .before .goes-left .ensures) _ (c .before .before .before .before .asks .ensures) _ (c .before .before .before .goes-left2 .ensures) _ (c .before .before .asks2 .ensures) (c .if3 .taken) in omega arith
+
+better-son-right-requires-2 : (t : ℕ) → better-son-lts.Need-right-requires-2 (better-son-calls t) (better-son-at t) better-son.Post
+better-son-right-requires-2 t c κs = c .before .before .before .before .before .before .before .pre .1 .low
+
+better-son-smallest-y-at-requires-3 : (t : ℕ) → better-son-lts.Need-smallest-y-at-requires-3 (better-son-calls t) (better-son-at t) better-son.Post
+better-son-smallest-y-at-requires-3 t c κs =
+    let d = right-deep _ _ _ _ _ _ _ _ (c .before .before .before .before .before .before .before .before .before .pre .1) _ (c .before .before .before .before .before .before .before .goes-left .ensures) _ (c .before .before .before .before .before .before .asks .ensures) _ (c .before .before .before .before .before .goes-left2 .ensures) _ (c .before .before .before .before .asks2 .ensures) (c .before .before .if3 .taken) in
+    (omega (arith, c .before .before .before .before .before .before .before .before .before .pre .0), right-here _ _ _ _ _ _ _ _ (c .before .before .before .before .before .before .before .before .before .pre .1) _ (c .before .before .before .before .before .before .before .goes-left .ensures) _ (c .before .before .before .before .before .before .asks .ensures) _ (c .before .before .before .before .before .goes-left2 .ensures) _ (c .before .before .before .before .asks2 .ensures) _ (c .before .before .if3 .taken) (c .before .right2 .ensures))
+
+better-son-returns-3 : (t : ℕ) → better-son-lts.Need-returns-3 (better-son-calls t) (better-son-at t) better-son.Post
+better-son-returns-3 t c =
+    let p2 = c .before .before in let p3 = p2 .before in let p4 = p3 .before in let p5 = p4 .before in let p6 = p5 .before in let p7 = p6 .before in let p8 = p7 .before in let p10 = p8 .before .before in
+    right-only _ _ _ _ _ _ _ _ (p10 .pre .1) _ (p8 .goes-left .ensures) _ (p7 .asks .ensures) _ (p6 .goes-left2 .ensures) _ (p5 .asks2 .ensures) (p4 .if1 .left) _ (p3 .if3 .taken) (p2 .right2 .ensures) _ _ (c .smallest-y-at3 .ensures)
+
+better-son-returns-4 : (t : ℕ) → better-son-lts.Need-returns-4 (better-son-calls t) (better-son-at t) better-son.Post
+better-son-returns-4 t c =
+    let p1 = c .before in let p2 = p1 .before in let p3 = p2 .before in let p4 = p3 .before in let p5 = p4 .before in let p7 = p5 .before .before in
+    neither _ _ _ _ _ _ _ _ (p7 .pre .1) _ (p5 .goes-left .ensures) _ (p4 .asks .ensures) _ (p3 .goes-left2 .ensures) _ (p2 .asks2 .ensures) (p1 .if1 .left) (c .if3 .left)
+
+smallest-y-at-add-visits : (t : ℕ) → smallest-y-at-lts.Need-add-visits (smallest-y-at-calls t) (smallest-y-at-at t) smallest-y-at.Post
+smallest-y-at-add-visits t c = let z = one-more _ _ _ _ _ (c .before .before .pre .1 .0) (c .before .before .pre .1 .1) in omega arith
+
+smallest-y-at-pair-requires : (t : ℕ) → smallest-y-at-lts.Need-pair-requires (smallest-y-at-calls t) (smallest-y-at-at t) smallest-y-at.Post
+smallest-y-at-pair-requires t c κs = there _ _ _ _ _ (c .before .before .pre .1 .0) (c .before .before .pre .1 .1)
+
+smallest-y-at-returns : (t : ℕ) → smallest-y-at-lts.Need-returns (smallest-y-at-calls t) (smallest-y-at-at t) smallest-y-at.Post
+smallest-y-at-returns t c =
+    let p1 = c .before in let p2 = p1 .before in let p5 = p2 .before .before .before in
+    own-pair _ _ _ _ _ (p5 .pre .1 .0) (p5 .pre .1 .1) _ _ _ (p2 .pair .ensures) _ (p1 .in-range .ensures) (c .if1 .taken)
+
+smallest-y-at-left-requires : (t : ℕ) → smallest-y-at-lts.Need-left-requires (smallest-y-at-calls t) (smallest-y-at-at t) smallest-y-at.Post
+smallest-y-at-left-requires t c κs = there _ _ _ _ _ (c .before .before .before .before .before .pre .1 .0) (c .before .before .before .before .before .pre .1 .1)
+
+smallest-y-at-right-requires : (t : ℕ) → smallest-y-at-lts.Need-right-requires (smallest-y-at-calls t) (smallest-y-at-at t) smallest-y-at.Post
+smallest-y-at-right-requires t c κs = there _ _ _ _ _ (c .before .before .before .before .before .before .pre .1 .0) (c .before .before .before .before .before .before .pre .1 .1)
+
+smallest-y-at-better-son-requires : (t : ℕ) → smallest-y-at-lts.Need-better-son-requires (smallest-y-at-calls t) (smallest-y-at-at t) smallest-y-at.Post
+smallest-y-at-better-son-requires t c κs = (omega (arith, c .before .before .before .before .before .before .before .before .pre .0), sons-asked _ _ _ _ _ (c .before .before .before .before .before .before .before .before .pre .1 .0) (c .before .before .before .before .before .before .before .before .pre .1 .1) _ _ (c .before .before .left .ensures) (c .before .right .ensures))
+
+smallest-y-at-returns-2 : (t : ℕ) → smallest-y-at-lts.Need-returns-2 (smallest-y-at-calls t) (smallest-y-at-at t) smallest-y-at.Post
+smallest-y-at-returns-2 t c =
+    let p2 = c .before .before in let p3 = p2 .before in let p4 = p3 .before in let p5 = p4 .before in let p6 = p5 .before in let p9 = p6 .before .before .before in
+    below _ _ _ _ _ (p9 .pre .1 .0) (p9 .pre .1 .1) _ _ _ (p6 .pair .ensures) _ (p5 .in-range .ensures) (p4 .if1 .left) _ _ (p3 .left .ensures) (p2 .right .ensures) _ _ (c .better-son .ensures)
+
+pub +better-son+smallest-y-at-spec : {M : Type 1} → statement M
++better-son+smallest-y-at-spec = close μ-better-son μ-smallest-y-at (λ t. better-son-lts.spec (better-son-calls t) (better-son-at t) better-son.Post
+    (better-son-goes-left-requires t)
+    (λ c κs. search needs)
+    (better-son-goes-left-requires-2 t)
+    (λ c κs. search needs)
+    (better-son-sub-smallest-y-at t)
+    (better-son-left-requires t)
+    (better-son-smallest-y-at-requires t)
+    (better-son-sub-smallest-y-at-2 t)
+    (better-son-right-requires t)
+    (better-son-smallest-y-at-requires-2 t)
+    (better-son-lower-requires t)
+    (better-son-returns t)
+    (better-son-returns-2 t)
+    (better-son-sub-smallest-y-at-3 t)
+    (better-son-right-requires-2 t)
+    (better-son-smallest-y-at-requires-3 t)
+    (better-son-returns-3 t)
+    (better-son-returns-4 t))
+    λ t. smallest-y-at-lts.spec (smallest-y-at-calls t) (smallest-y-at-at t) smallest-y-at.Post
+    (smallest-y-at-add-visits t)
+    (smallest-y-at-pair-requires t)
+    (λ c κs. search needs)
+    (smallest-y-at-returns t)
+    (smallest-y-at-left-requires t)
+    (smallest-y-at-right-requires t)
+    (smallest-y-at-better-son-requires t)
+    (smallest-y-at-returns-2 t)
