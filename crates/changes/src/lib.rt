@@ -1,8 +1,1 @@
-// Changes of a sound pool: a pair goes down, a hole is filled.
-mod down;
-mod hole;
-
-pub use down::insert;
-pub use down::is_stored;
-pub use hole::Removal;
-pub use hole::delete;
+// No code: what going down and filling a hole share, a place of the tree and the cells of its links (specs/ and proofs/).

@@ -16,11 +16,11 @@ use Rattle.rule.specs.Refusals.{leftBy, Leaves}
 use Rattle.rule.specs.Sound.{Sound}
 use Rattle.rule.proofs.Decided.{true-pool, sound-test}
 use Rattle.rule.proofs.Tables.{left-refused, left-passed}
-use Rattle.changes.specs.Down.{Enters}
-use Rattle.changes.specs.Hole.{Deletes, missing, other, done}
-use Rattle.changes.specs.declared.hole.Removal.{Removal}
-use Rattle.changes.specs.declared.hole.Removal.the-variants.{Done, Missing, Other}
-use Rattle.changes.proofs.Entering.{enters}
+use Rattle.down.specs.Down.{Enters}
+use Rattle.hole.specs.Hole.{Deletes, missing, other, done}
+use Rattle.hole.specs.declared.Removal.{Removal}
+use Rattle.hole.specs.declared.Removal.the-variants.{Done, Missing, Other}
+use Rattle.down.proofs.Entering.{enters}
 use Rattle.sound.specs.declared.Health.{Health}
 use Rattle.sound.specs.declared.Health.the-variants.{Unsound, WrongLength}
 use Rattle.sound.specs.Promises.{healthOf}

@@ -21,7 +21,7 @@ use Rattle.rule.proofs.Trees.{New, all-map, all-mem, all-at}
 use Rattle.rule.proofs.Decided.{true-pool, test-sound, sound-test}
 use Rattle.rule.proofs.Having.{hasX-true, true-hasX, has-true, true-has}
 use Rattle.rule.proofs.Stored.{stored-mem}
-use Rattle.changes.specs.Down.{Enters}
+use Rattle.down.specs.Down.{Enters}
 use Rattle.pool.specs.Changing.{insertion, deletion}
 
 -- x is in nobody's pair, over the tree and over the list

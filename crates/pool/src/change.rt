@@ -1,5 +1,5 @@
 // Insert and delete.
-use changes::Removal;
+use hole::Removal;
 use rule::Answer;
 use rule::Pair;
 use rule::codes;
@@ -12,13 +12,13 @@ fn insert_sound(pool: &mut [u32], p: Pair) -> Answer
     requires { ⌜ Sound (now pool) ⌝ }
     ensures { λ r. ⌜ Leaves (insertion (now (pool .entry)) p) (now (pool .exit)) r ⌝ }
 {
-    if changes::is_stored(pool, p.x) {
+    if down::is_stored(pool, p.x) {
         return sound::refused(codes::TAKEN);
     }
     if cells::first_free(pool) == 0 {
         return sound::refused(codes::FULL);
     }
-    changes::insert(pool, p);
+    down::insert(pool, p);
     sound::finished()
 }
 
@@ -38,7 +38,7 @@ fn delete_sound(pool: &mut [u32], p: Pair) -> Answer
     requires { ⌜ Sound (now pool) ⌝ }
     ensures { λ r. ⌜ Leaves (deletion (now (pool .entry)) p) (now (pool .exit)) r ⌝ }
 {
-    let removal = changes::delete(pool, p);
+    let removal = hole::delete(pool, p);
     match removal {
         Removal::Done => sound::finished(),
         Removal::Missing => sound::refused(codes::MISSING),

@@ -1,0 +1,286 @@
+-- A pair that goes down, one level at a time.
+use Prim.Native.Nat.{ℕ, zero, suc, _+_, _*_, _-_, _/_, _≤_, _<_}
+use mathlib.Core.Path.{_≡_, refl, sym, ap, _∙_, subst}
+use mathlib.Core.Logic.{_≢_, ⊎-elim}
+use mathlib.Core.Bool.{Bool, true, false, cond}
+use mathlib.Core.List.{List}
+use native.Mathlib.Omega.{arith}
+use lib.Dec.{ltb}
+use lib.ListN.{length, getD, set, length-set}
+use lib.Seq.{getD-set-same, getD-set-other, set-getD}
+use borrow.Author.Tests.{lt-ltb, le-ltb}
+use Rattle.rule.specs.declared.Pair.{Pair}
+use Rattle.rule.specs.Pairs.{beats}
+use Rattle.rule.specs.Stripe.{Stripe, middle, leftPart, rightPart, partOf}
+use Rattle.rule.specs.Tree.{Tree, none, fork, Within}
+use Rattle.rule.specs.Changes.{goDown}
+use Rattle.rule.specs.Cells.{perSlot, Fits, freeOf, pairAt, rightAt, putPair, putLinks, linkCell, treeAt}
+use Rattle.rule.specs.Sound.{Leads, nowhere, itself}
+use Rattle.rule.proofs.Order.{true-beats, false-beats}
+use Rattle.rule.proofs.Stripes.{low-part}
+use Rattle.rule.proofs.GoDown.{Sorted, swap, keep, Down, put, go-left, go-right, down-value}
+use Rattle.rule.proofs.Leads.{back, leads-tree, leads-fits}
+use Rattle.rule.proofs.Standing.{Stands, at-top, Distinct, down-stands}
+use Rattle.rule.proofs.Agreement.{Holds, holds-agree, same-slot, slot-as, slot-fits, leads-reads, leads-top, leads-frame, pair-wrote, putSlot, slot-wrote, slot-read}
+use Rattle.changes.specs.Places.{Replaced}
+use Rattle.changes.proofs.Links.{link-low, link-high, agree-cells}
+use Rattle.down.specs.Down.{Going, Carried, stays, goesOn, Settled, Room, taken}
+use Rattle.down.proofs.Sides.{joined, Sons, top-stands, near-stands, far-stands, joined-distinct, joined-within, sons-read}
+use Rattle.down.proofs.Replacing.{pair-kept, link-kept, links-kept, replaced-up}
+
+-- where two pairs meet
+module _ {c : List ℕ} {s : ℕ} {p q : Pair} {t : Bool} (eq : q ≡ pairAt c s) (et : t ≡ beats p q) where
+  pub settle-swap : {d : List ℕ} → t ≡ true → d ≡ putPair c s p → Settled c s p d q
+  unfolding stays goesOn
+  settle-swap h e =
+      let f : beats p (pairAt c s) ≡ true = rw eq at (sym et ∙ h) in
+      record { cells = rw f e; goes = rw f eq }
+
+  pub settle-keep : t ≡ false → Settled c s p c p
+  unfolding stays goesOn
+  settle-keep h =
+      let f : beats p (pairAt c s) ≡ false = rw eq at (sym et ∙ h) in
+      record { cells = rw (f, set-getD c (s * perSlot) 0, set-getD c (s * perSlot + 1) 0); goes = rw f }
+
+-- the steps of taking a free slot
+pub took : (c d d′ d″ : List ℕ) (cell s n : ℕ) (p : Pair) → s ≡ freeOf c → n ≡ rightAt c s → d ≡ putPair c s p → d′ ≡ putLinks d s 0 0 → d″ ≡ set d′ 2 n
+    → set d″ cell s ≡ taken c cell p
+unfolding taken
+took c d d′ d″ cell s n p es en e e′ e″ = rw (e″, e′, e, en, es)
+
+sorted-stays : {p q w z : Pair} → Sorted itself p q w z → stays p q ≡ w
+unfolding stays
+sorted-stays (swap b) = rw (true-beats b)
+sorted-stays (keep b) = rw (false-beats b)
+
+sorted-goes : {p q w z : Pair} → Sorted itself p q w z → goesOn p q ≡ z
+unfolding goesOn
+sorted-goes (swap b) = rw (true-beats b)
+sorted-goes (keep b) = rw (false-beats b)
+
+-- a tree that a pair goes down in has no more levels than it has then, and that is one at least
+within-before : {f : ℕ} {p : Pair} {at : Stripe} {t t′ : Tree Pair} (k : ℕ) → Down itself f p at t t′ → Within k t′ → Within k t
+within-before k put h = tt
+within-before zero (go-left o j d) h = absurd h
+within-before (suc k) (go-left o j d) h = (within-before k d (h .0), h .1)
+within-before zero (go-right o j d) h = absurd h
+within-before (suc k) (go-right o j d) h = (h .0, within-before k d (h .1))
+
+within-some : {f : ℕ} {p : Pair} {at : Stripe} {t t′ : Tree Pair} (k : ℕ) → Down itself f p at t t′ → Within k t′ → k ≡ 0 → ⊥
+within-some zero put h e = h
+within-some zero (go-left o j d) h e = h
+within-some zero (go-right o j d) h e = h
+within-some (suc k) d h e = omega arith
+
+-- the way down at a slot s that holds q: w stays, and z goes on in the near tree
+record Turn (f s : ℕ) (w q z : Pair) (b : Bool) (at : Stripe) (before after : Tree Pair) : Type 0 where
+  near : Tree Pair
+  far : Tree Pair
+  grown : Tree Pair
+  was : before ≡ joined b s q near far
+  is : after ≡ joined b s w grown far
+  down : Down itself f z at near grown
+
+module _ {c : List ℕ} {f s : ℕ} {p q w z : Pair} {b : Bool} {part : Stripe} (at : Stripe) (eq : q ≡ pairAt c s) (ew : w ≡ stays p q) (ez : z ≡ goesOn p q)
+    (eb : b ≡ ltb (z .x) (middle at)) (ea : part ≡ partOf at (z .x)) where
+  turned : {q′ w′ z′ : Pair} (b′ : Bool) (i : ℕ) (near far grown : Tree Pair) → Leads c s (joined b′ i q′ near far) → Sorted itself p q′ w′ z′
+      → ltb (z′ .x) (middle at) ≡ b′ → Down itself f z′ (cond b′ (leftPart at) (rightPart at)) near grown
+      → Turn f s w q z b part (joined b′ i q′ near far) (joined b′ i w′ grown far)
+  unfolding partOf
+  turned {q′} {w′} {z′} b′ i near far grown h o side d =
+      let R = sons-read i q′ near far c b′ h in
+      let es : s ≡ i = R .here in
+      let eq′ : q ≡ q′ = eq ∙ ap (λ v. pairAt c v) es ∙ R .pair in
+      let ew′ : w ≡ w′ = ew ∙ ap (λ v. stays p v) eq′ ∙ sorted-stays o in
+      let ez′ : z ≡ z′ = ez ∙ ap (λ v. goesOn p v) eq′ ∙ sorted-goes o in
+      let eb′ : b ≡ b′ = eb ∙ rw ez′ side in
+      let ea′ : part ≡ cond b′ (leftPart at) (rightPart at) = ea ∙ rw (ez′, side) refl in
+      rw (es, eq′, ew′, ez′, eb′, ea′) (record { near = near; far = far; grown = grown; was = refl; is = refl; down = d })
+
+  turn : {t t′ : Tree Pair} → Leads c s t → (s ≡ 0 → ⊥) → Down itself f p at t t′ → Turn f s w q z b part t t′
+  turn h ne put = absurd (ne (leads-top h))
+  turn h ne (go-left {z = z′} {i = i} {l = l} {r = r} {t = t} o j d) = turned true i l r t h o (lt-ltb (z′ .x) (middle at) j) d
+  turn h ne (go-right {z = z′} {i = i} {l = l} {r = r} {t = t} o j d) = turned false i r l t h o (le-ltb (z′ .x) (middle at) j) d
+
+-- what is known at a place: the tree that is read there, and the one that p goes down into
+module _ {c : List ℕ} {k cell : ℕ} {at : Stripe} {p : Pair} (g : Going c k cell at p) where
+  going-grown : goDown itself (freeOf c) p at (treeAt c k (getD c cell 0)) ≡ g .after
+  going-grown = rw (leads-tree c k (g .leads) (within-before k (g .down) (g .levels))) (down-value itself (freeOf c) (g .down))
+
+  carried-by : {d : List ℕ} → Replaced c cell (g .after) (g .after) d → freeOf d ≡ rightAt c (freeOf c) → Carried c k cell at p d
+  carried-by h e = record { place = rw going-grown h; first = e }
+
+  carried-as : {d : List ℕ} → Carried c k cell at p d → Replaced c cell (g .after) (g .after) d
+  carried-as h = rw going-grown at (h .place)
+
+  pub going-room : Room c cell
+  going-room = record { inside = g .inside; slot = g .free }
+
+  pub going-fits : (getD c cell 0 ≡ 0 → ⊥) → Fits c (getD c cell 0)
+  going-fits ne = leads-fits c (g .leads) ne
+
+-- at an empty place the free slot is taken
+module _ {c : List ℕ} {cell : ℕ} (p : Pair) (r : Room c cell) (away : cell / perSlot ≢ freeOf c) (other : cell ≢ 2) where
+  abbrev f : ℕ
+  f = freeOf c
+
+  abbrev slotted : List ℕ
+  slotted = putSlot c f p 0 0
+
+  abbrev headed : List ℕ
+  headed = set slotted 2 (rightAt c f)
+
+  taken-long : length (taken c cell p) ≡ length c
+  unfolding taken
+  taken-long = length-set headed cell f ∙ length-set slotted 2 (rightAt c f) ∙ slot-wrote c f p 0 0 .long
+
+  taken-else : (j : ℕ) → j ≢ cell → j ≢ 2 → getD (taken c cell p) j 0 ≡ getD slotted j 0
+  unfolding taken
+  taken-else j n i = getD-set-other headed cell j f 0 n ∙ getD-set-other slotted 2 j (rightAt c f) 0 i
+
+  taken-slot : Holds (taken c cell p) f p 0 0
+  taken-slot =
+      let some = r .slot .some in
+      holds-agree (slot-read c f p 0 0 (slot-fits (r .slot))) (agree-cells f (λ j e. taken-else j (λ i. away (omega arith)) (λ i. omega arith)))
+
+  taken-link : getD (taken c cell p) cell 0 ≡ f
+  unfolding taken
+  taken-link =
+      let a = length-set slotted 2 (rightAt c f) in
+      let b = slot-wrote c f p 0 0 .long in
+      let i = r .inside in
+      getD-set-same headed cell f 0 (omega arith)
+
+  taken-first : freeOf (taken c cell p) ≡ rightAt c f
+  unfolding taken
+  taken-first =
+      let b = slot-wrote c f p 0 0 .long in
+      let o = slot-fits (r .slot) in
+      getD-set-other headed cell 2 f 0 (λ e. other (sym e)) ∙ getD-set-same slotted 2 (rightAt c f) 0 (omega arith)
+
+  taken-replaced : Replaced c cell (fork f p none none) (fork f p none none) (taken c cell p)
+  taken-replaced =
+      let H = taken-slot in
+      record {
+        long = taken-long;
+        link = taken-link;
+        leads = slot-as (same-slot taken-long (r .slot)) (H .pair) (H .left) (H .right) nowhere nowhere;
+        rest = λ j n i m.
+            taken-else j n i ∙ links-kept (putPair c f p) f 0 0 j (λ e. m (at-top e)) ∙ pair-kept c f p j (λ e. m (at-top e));
+      }
+
+grown-one : {c : List ℕ} {s f : ℕ} {p : Pair} {at : Stripe} {t t′ : Tree Pair} → Leads c s t → s ≡ 0 → Down itself f p at t t′ → fork f p none none ≡ t′
+grown-one h e put = refl
+grown-one h e (go-left o j d) = let R = leads-reads h in let a = R .here in let b = R .slot .some in absurd (omega arith)
+grown-one h e (go-right o j d) = let R = leads-reads h in let a = R .here in let b = R .slot .some in absurd (omega arith)
+
+pub put-there : {c : List ℕ} {k cell : ℕ} {at : Stripe} {p : Pair} {d : List ℕ} → Going c k cell at p → getD c cell 0 ≡ 0 → d ≡ taken c cell p
+    → Carried c k cell at p d
+put-there {c} {cell = cell} {p = p} {d = d} g e h =
+    let r = going-room g in
+    let q = grown-one (g .leads) e (g .down) in
+    carried-by g (subst (λ t. Replaced c cell t t d) q (rw h (taken-replaced p r (g .elsewhere) (g .other)))) (rw h (taken-first p r (g .elsewhere) (g .other)))
+
+-- one level down
+module _ {c : List ℕ} {k cell : ℕ} {at : Stripe} {p : Pair} (g : Going c (suc k) cell at p) (ne : getD c cell 0 ≡ 0 → ⊥) where
+  abbrev s : ℕ
+  s = getD c cell 0
+
+  abbrev w : Pair
+  w = stays p (pairAt c s)
+
+  abbrev z : Pair
+  z = goesOn p (pairAt c s)
+
+  abbrev b : Bool
+  b = ltb (z .x) (middle at)
+
+  abbrev e : List ℕ
+  e = putPair c s w
+
+  T : Turn (freeOf c) s w (pairAt c s) z b (partOf at (z .x)) (g .before) (g .after)
+  T = turn at refl refl refl refl refl (g .leads) ne (g .down)
+
+  S : Sons s (pairAt c s) (T .near) (T .far) c b s
+  S = sons-read s (pairAt c s) (T .near) (T .far) c b (subst (λ t. Leads c s t) (T .was) (g .leads))
+
+  D : Distinct (fork s (pairAt c s) (T .near) (T .far))
+  D = joined-distinct s (pairAt c s) (T .near) (T .far) b (subst (λ t. Distinct t) (T .was) (g .distinct))
+
+  on-top : {u : ℕ} → u ≡ s → Stands u (g .before)
+  on-top q = rw (T .was) (top-stands s (pairAt c s) (T .near) (T .far) b q)
+
+  on-near : {u : ℕ} → Stands u (T .near) → Stands u (g .before)
+  on-near m = rw (T .was) (near-stands s (pairAt c s) (T .near) (T .far) b m)
+
+  on-far : {u : ℕ} → Stands u (T .far) → Stands u (g .before)
+  on-far m = rw (T .was) (far-stands s (pairAt c s) (T .near) (T .far) b m)
+
+  -- the free slot is another, and stays the first
+  not-free : s ≢ freeOf c
+  not-free q = g .new (on-top (sym q))
+
+  same-free : freeOf e ≡ freeOf c
+  same-free = pair-wrote c s w .rest 0 (λ q. ne (sym q)) .left
+
+  same-next : rightAt e (freeOf e) ≡ rightAt c (freeOf c)
+  same-next = rw same-free (pair-wrote c s w .rest (freeOf c) (λ q. not-free (sym q)) .right)
+
+  below : Going e k (linkCell s b) (partOf at (z .x)) z
+  below =
+      let W = pair-wrote c s w in
+      let from = link-low s b in
+      let to = link-high s b in
+      let o = S .slot in
+      let some = o .some in
+      let fits = slot-fits o in
+      let long = W .long in
+      let q : linkCell s b / perSlot ≡ s = omega arith in
+      record {
+        before = T .near;
+        after = T .grown;
+        inside = omega arith;
+        leads = rw (link-kept c s w b) (leads-frame (W .long) (S .on-near) (λ u m. W .rest u (λ i. D .not-left (rw i at m))));
+        distinct = D .left;
+        apart = λ m. D .not-left (rw q at m);
+        free = rw same-free (same-slot (W .long) (g .free));
+        new = λ m. g .new (on-near (rw same-free at m));
+        elsewhere = rw (q, same-free) not-free;
+        other = λ i. omega arith;
+        down = rw same-free (T .down);
+        levels = joined-within s w (T .grown) (T .far) b k (rw (T .is) at (g .levels));
+        low = low-part at (z .x) (g .low);
+      }
+
+  -- the slots of the grown tree are none of the others
+  grown-out : {u : ℕ} → u ≢ freeOf c → (Stands u (T .near) → ⊥) → Stands u (T .grown) → ⊥
+  grown-out n m i = ⊎-elim (λ q. n q) (λ j. m j) (down-stands itself (T .down) i)
+
+  up : {d : List ℕ} → Carried e k (linkCell s b) (partOf at (z .x)) z d → Carried c (suc k) cell at p d
+  unfolding below T
+  up {d} h =
+      carried-by g
+      (rw (T .is) (replaced-up cell s b w w (T .far) (S .slot) refl (λ q. g .apart (on-top q)) (g .other) (S .on-far) (D .not-right)
+      (carried-as below h) (grown-out not-free (D .not-left)) (grown-out (g .elsewhere) (λ m. g .apart (on-near m)))
+      (λ u m n. grown-out (λ q. g .new (on-far (rw q at n))) (λ i. D .across u i n) m)))
+      (h .first ∙ same-next)
+
+  deep : k ≡ 0 → ⊥
+  deep = within-some k (below .down) (below .levels)
+
+  -- law: there is a level left
+  pub some-left : 1 ≤ k
+  some-left = let d = deep in omega arith
+
+  pub one-less : {t : ℕ} → k ≡ t → k - 1 < t
+  one-less e = let d = deep in omega arith
+
+  -- law: the beaten pair can go down from the son's place
+  pub goes-on : {d : List ℕ} {r : Pair} {side : Bool} {cell′ : ℕ} {at′ : Stripe} → Settled c s p d r → side ≡ ltb (r .x) (middle at) → cell′ ≡ linkCell s side
+      → at′ ≡ partOf at (r .x) → Going d (suc (k - 1)) cell′ at′ r
+  goes-on h eb ec ea = rw (back k deep, ea, ec, eb, h .goes, h .cells) below
+
+  -- law: where it has, p has gone down from the place
+  pub gone : {d d′ : List ℕ} {r : Pair} {side : Bool} {cell′ : ℕ} {at′ : Stripe} → Settled c s p d r → side ≡ ltb (r .x) (middle at) → cell′ ≡ linkCell s side
+      → at′ ≡ partOf at (r .x) → Carried d (suc (k - 1)) cell′ at′ r d′ → Carried c (suc k) cell at p d′
+  gone h eb ec ea q = up (rw (back k deep, ea, ec, eb, h .goes, h .cells) at q)

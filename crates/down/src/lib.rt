@@ -1,0 +1,81 @@
+// Insertion: a pair goes down in a sound pool.
+use rule::Pair;
+use rule::Stripe;
+ghost use mathlib.Core.Path.{_≡_};
+ghost use Prim.Native.Nat.{suc};
+ghost use Rattle.rule.specs.Cells.{Fits, stored};
+ghost use Rattle.rule.specs.Laid.{inserted};
+ghost use Rattle.rule.specs.Plain.{hasX};
+ghost use Rattle.rule.specs.Shape.{stripeOf};
+ghost use Rattle.rule.specs.Sound.{Sound};
+ghost use Rattle.down.specs.Down.{Enters, Going, Carried, Settled, Room, taken};
+
+// Where a pair meets a slot's, the better one stays there, and the beaten one goes on.
+fn settle(pool: &mut [u32], slot: u32, p: Pair) -> Pair
+    requires { ⌜ Fits (now pool) slot ⌝ }
+    ensures { λ r. ⌜ Settled (now (pool .entry)) slot p (now (pool .exit)) r ⌝ }
+{
+    let met = cells::pair(pool, slot);
+    if p.beats(met) {
+        cells::put_pair(pool, slot, p);
+        return met;
+    }
+    p
+}
+
+// The first free slot is taken for a pair, and linked from a cell.
+fn take_free(pool: &mut [u32], cell: usize, p: Pair)
+    requires { ⌜ Room (now pool) cell ⌝ }
+    ensures { λ _. ⌜ now (pool .exit) ≡ taken (now (pool .entry)) cell p ⌝ }
+{
+    let slot = cells::first_free(pool);
+    let next = cells::right(pool, slot);
+    cells::put_pair(pool, slot, p);
+    cells::put_links(pool, slot, 0, 0);
+    cells::put_first_free(pool, next);
+    pool[cell] = slot;
+}
+
+// A pair goes down from the place whose link is in a cell, with so many levels below it.
+fn carry(pool: &mut [u32], levels: u32, cell: usize, at: Stripe, p: Pair)
+    requires { ⌜ Going (now pool) (suc levels) cell (stripeOf at) p ⌝ }
+    ensures { λ _. ⌜ Carried (now (pool .entry)) (suc levels) cell (stripeOf at) p (now (pool .exit)) ⌝ }
+{
+    let slot = pool[cell];
+    if slot == 0 {
+        take_free(pool, cell, p);
+        return;
+    }
+    let down = settle(pool, slot, p);
+    carry(
+        pool,
+        levels - 1,
+        cells::link_cell(slot, at.goes_left(down.x)),
+        at.towards(down.x),
+        down,
+    );
+}
+
+// Stores a pair whose x is new, in a pool with a free slot.
+pub fn insert(pool: &mut [u32], p: Pair)
+    requires { ⌜ Enters (now pool) p ⌝ }
+    ensures { λ _. ⌜ now (pool .exit) ≡ inserted (now (pool .entry)) p ⌝ }
+{
+    let count = cells::count(pool);
+    carry(pool, Stripe::LEVELS, cells::ROOT_CELL, Stripe::root(), p);
+    cells::put_count(pool, count + 1);
+}
+
+// Whether x is stored, with whatever y.
+pub fn is_stored(pool: &[u32], x: u32) -> bool
+    requires { ⌜ Sound (now pool) ⌝ }
+    ensures { λ r. ⌜ r ≡ hasX x (stored (now (pool .entry))) ⌝ }
+{
+    halving::met(
+        pool,
+        Stripe::LEVELS + 1,
+        cells::root(pool),
+        Stripe::root(),
+        x,
+    )
+}

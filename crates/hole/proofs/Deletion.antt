@@ -1,0 +1,157 @@
+-- A deletion from a sound pool: a removal from the root, and the count less one.
+use Prim.Native.Nat.{ℕ, _-_, _/_, _≤_}
+use mathlib.Core.Path.{_≡_, refl, ap, _∙_}
+use mathlib.Core.Logic.{_≢_}
+use mathlib.Core.List.{List}
+use native.Mathlib.Omega.{arith}
+use lib.ListN.{getD, set, length-set}
+use lib.Seq.{getD-set-same, getD-set-other}
+use Rattle.rule.specs.declared.Pair.{Pair}
+use Rattle.rule.specs.Plain.{hasX, has}
+use Rattle.rule.specs.Stripe.{Stripe, rootStripe}
+use Rattle.rule.specs.Tree.{Tree, members, size, Mem, here, in-left, in-right}
+use Rattle.rule.specs.Changes.{takeOut}
+use Rattle.rule.specs.Cells.{perSlot, freeOf, countOf, freeMark, stored}
+use Rattle.rule.specs.Sound.{itself, Sound}
+use Rattle.rule.proofs.Tests.{on}
+use Rattle.rule.proofs.Order.{pair-ext}
+use Rattle.rule.proofs.Members.{members-mem, apart-same}
+use Rattle.rule.proofs.Having.{hasX-true, true-hasX, has-true, true-has}
+use Rattle.rule.proofs.Stripes.{low-root}
+use Rattle.rule.proofs.Standing.{Stands}
+use Rattle.rule.proofs.Decided.{sound-well, sound-tree}
+use Rattle.rule.proofs.Agreement.{agree-then, Holds, holds-agree, header-fits, leads-frame, leads-slot}
+use Rattle.rule.proofs.Slots.{sound-distinct, tree-slot}
+use Rattle.rule.proofs.Stored.{stored-mem}
+use Rattle.rule.proofs.Changed.{Changed}
+use Rattle.rule.proofs.Deleted.{cut, given-slot, deleted-one}
+use Rattle.changes.proofs.Links.{agree-cells}
+use Rattle.hole.specs.declared.Removal.{Removal}
+use Rattle.hole.specs.declared.Removal.the-variants.{Done, Missing, Other}
+use Rattle.hole.specs.Hole.{placed, Freed, Looking, Removed, missing, other, done, Deletes}
+use Rattle.hole.proofs.Holes.{cell-agree}
+
+-- what a removal ended with
+record Absent (c : List ℕ) (t : Tree Pair) (p : Pair) (d : List ℕ) : Type 0 where
+  same : d ≡ c
+  new : (q : Pair) → Mem q t → q .x ≡ p .x → ⊥
+
+record Differing (c : List ℕ) (t : Tree Pair) (p : Pair) (d : List ℕ) : Type 0 where
+  same : d ≡ c
+  pair : Pair
+  member : Mem pair t
+  level : pair .x ≡ p .x
+  apart : pair .y ≢ p .y
+
+record Out (c : List ℕ) (cell : ℕ) (t : Tree Pair) (at : Stripe) (p : Pair) (d : List ℕ) : Type 0 where
+  member : Mem p t
+  freed : Freed c cell t (takeOut itself (p .x) at t) d
+
+module _ {c : List ℕ} {cell : ℕ} {t : Tree Pair} {at : Stripe} {p : Pair} where
+  absent : {r : Removal} {d : List ℕ} → Removed c cell t at p r d → r ≡ Missing → Absent c t p d
+  absent (missing f) e = record { same = refl; new = f }
+  absent (other q m x y) e = let z : _≡_ {A = ℕ} 0 1 = cc in absurd (omega arith)
+  absent (done m f) e = let z : _≡_ {A = ℕ} 0 1 = cc in absurd (omega arith)
+
+  differing : {r : Removal} {d : List ℕ} → Removed c cell t at p r d → r ≡ Other → Differing c t p d
+  differing (missing f) e = let z : _≡_ {A = ℕ} 0 1 = cc in absurd (omega arith)
+  differing (other q m x y) e = record { same = refl; pair = q; member = m; level = x; apart = y }
+  differing (done m f) e = let z : _≡_ {A = ℕ} 0 1 = cc in absurd (omega arith)
+
+  out : {r : Removal} {d : List ℕ} → Removed c cell t at p r d → r ≡ Done → Out c cell t at p d
+  out (missing f) e = let z : _≡_ {A = ℕ} 0 1 = cc in absurd (omega arith)
+  out (other q m x y) e = let z : _≡_ {A = ℕ} 0 1 = cc in absurd (omega arith)
+  out (done m f) e = record { member = m; freed = f }
+
+some-size : {q : Pair} {t : Tree Pair} → Mem q t → 1 ≤ size t
+some-size (here e) = omega arith
+some-size (in-left m) = let h = some-size m in omega arith
+some-size (in-right m) = let h = some-size m in omega arith
+
+module _ {c : List ℕ} (s : Sound c) where
+  header-out : Stands 0 (s .tree) → ⊥
+  header-out m = omega (arith, tree-slot s m .some)
+
+  -- law: a sound pool can be searched from the root's cell
+  pub looking-root : {p : Pair} {at : Stripe} → at ≡ rootStripe → Looking c 32 1 at p
+  looking-root e =
+      let f = header-fits (s .pool) in
+      let t = sound-tree c s in
+      rw e (record {
+        place = rw t (record {
+          inside = omega arith;
+          leads = s .links;
+          distinct = sound-distinct s;
+          apart = header-out;
+          other = omega arith;
+        });
+        well = rw t (sound-well c s);
+        low = low-root refl;
+        narrow = omega arith;
+        within = λ w. w;
+      })
+
+  module _ {p : Pair} {at : Stripe} (ea : at ≡ rootStripe) {r : Removal} {d : List ℕ} (R : Removed c 1 (placed c 33 1) at p r d) where
+    removed : Removed c 1 (s .tree) rootStripe p r d
+    removed = rw (ea, sound-tree c s) at R
+
+    -- law: x is not stored
+    pub deletes-missing : r ≡ Missing → Deletes c p Missing d
+    deletes-missing e =
+        let k = absent removed e in
+        rw (k .same) (Deletes.missing (on (hasX (p .x) (stored c))
+        (λ t. let h = hasX-true (p .x) (stored c) t in absurd (k .new (h .pair) (stored-mem s (h .pair) .0 (h .member)) (h .same))) (λ t. t)))
+
+    -- law: x is stored with another y
+    pub deletes-other : r ≡ Other → Deletes c p Other d
+    deletes-other e =
+        let k = differing removed e in
+        let q = k .pair in
+        rw (k .same) (Deletes.other (true-hasX q (p .x) (stored c) (stored-mem s q .1 (k .member)) (k .level)) (on (has p (stored c))
+        (λ t. let m = stored-mem s p .0 (has-true p (stored c) t) in
+        let z = apart-same (λ p. p .x) (members (s .tree)) (s .apart) q p (members-mem q (s .tree) .0 (k .member)) (members-mem p (s .tree) .0 m) (k .level) in
+        absurd (k .apart (ap (λ q. q .y) z))) (λ t. t)))
+
+    module _ (e : r ≡ Done) where
+      taken : Out c 1 (s .tree) rootStripe p d
+      taken = out removed e
+
+      kept : (j : ℕ) → j ≢ 1 → j ≢ 2 → j / perSlot ≡ 0 → getD d j 0 ≡ getD c j 0
+      kept j a b z = taken .freed .place .rest j a b (λ m. header-out (rw z at m))
+
+      module _ {n : ℕ} (en : n ≡ countOf d) where
+        -- law: the count can fall
+        pub some-counted : 1 ≤ n
+        some-counted =
+            let k = kept 3 (omega arith) (omega arith) refl in
+            let z = some-size (taken .member) in
+            let h = s .count in
+            omega arith
+
+        changed : Changed c (set d 3 (n - 1)) (cut s (p .x) .tree) (s .tree) (cut s (p .x) .slot) (countOf c - 1)
+        changed =
+            let F = taken .freed in
+            let P = F .place in
+            let f = header-fits (s .pool) in
+            let l = P .long in
+            let k = kept 3 (omega arith) (omega arith) refl in
+            record {
+              long = length-set d 3 (n - 1) ∙ l;
+              header = record {
+                pair = pair-ext (getD-set-other d 3 0 (n - 1) 0 (omega arith) ∙ kept 0 (omega arith) (omega arith) refl ∙ s .mark)
+                    (getD-set-other d 3 1 (n - 1) 0 (omega arith) ∙ P .link);
+                left = getD-set-other d 3 2 (n - 1) 0 (omega arith) ∙ F .first;
+                right = getD-set-same d 3 (n - 1) 0 (omega arith) ∙ ap (λ m. m - 1) (en ∙ k);
+              };
+              leads = leads-frame (length-set d 3 (n - 1)) (P .leads) (λ u m. let i = leads-slot (cut s (p .x) .tree) (P .leads) m .some in cell-agree d 3 (n - 1) u (omega arith));
+              rest = λ u o m. let i = o .some in agree-then (agree-cells u (λ j z. P .rest j (omega arith) (omega arith) (λ k. m (rw z at k)))) (cell-agree d 3 (n - 1) u (omega arith));
+            }
+
+        given : Holds (set d 3 (n - 1)) (cut s (p .x) .slot) (record { x = 0; y = 0 }) freeMark (freeOf c)
+        given =
+            let i = given-slot s p (taken .member) .some in
+            holds-agree (taken .freed .given) (cell-agree d 3 (n - 1) (cut s (p .x) .slot) (omega arith))
+
+        -- law: the pair is taken out
+        pub deletes-done : {d′ : List ℕ} → d′ ≡ set d 3 (n - 1) → Deletes c p Done d′
+        deletes-done h = rw (h, deleted-one s p (taken .member) changed given) (Deletes.done (true-has p (stored c) (stored-mem s p .1 (taken .member))))
