@@ -284,3 +284,25 @@ module _ {c : List ℕ} {k cell : ℕ} {at : Stripe} {p : Pair} (g : Going c (su
   pub gone : {d d′ : List ℕ} {r : Pair} {side : Bool} {cell′ : ℕ} {at′ : Stripe} → Settled c s p d r → side ≡ ltb (r .x) (middle at) → cell′ ≡ linkCell s side
       → at′ ≡ partOf at (r .x) → Carried d (suc (k - 1)) cell′ at′ r d′ → Carried c (suc k) cell at p d′
   gone h eb ec ea q = up (rw (back k deep, ea, ec, eb, h .goes, h .cells) at q)
+
+-- a pair that does not beat the one it meets goes on, and changes nothing
+module _ {c : List ℕ} {k cell : ℕ} {at : Stripe} {p q : Pair} {t : Bool} (ne : getD c cell 0 ≡ 0 → ⊥) (eq : q ≡ pairAt c (getD c cell 0)) (et : t ≡ beats p q) (f : t ≡ false)
+    {side : Bool} {cell′ : ℕ} {at′ : Stripe} (eb : side ≡ ltb (p .x) (middle at)) (ec : cell′ ≡ linkCell (getD c cell 0) side) (ea : at′ ≡ partOf at (p .x)) (g : Going c k cell at p) where
+  here : Going c (suc (k - 1)) cell at p
+  here = rw (back k (within-some k (g .down) (g .levels))) g
+
+  pub passes : Going c (k - 1) cell′ at′ p
+  passes = rw (back (k - 1) (deep here ne)) at (goes-on here ne (settle-keep eq et f) eb ec ea)
+
+  pub passed : {d : List ℕ} → Carried c (k - 1) cell′ at′ p d → Carried c k cell at p d
+  passed {d} h = rw (back k (within-some k (g .down) (g .levels))) at (gone here ne {d′ = d} (settle-keep eq et f) eb ec ea (rw (back (k - 1) (deep here ne)) h))
+
+-- law: a place that a pair can go down from has a level
+pub going-some : {c : List ℕ} {k cell : ℕ} {at : Stripe} {p : Pair} → Going c k cell at p → k ≡ 0 → ⊥
+going-some {k = k} g = within-some k (g .down) (g .levels)
+
+pub going-suc : {c : List ℕ} {k cell : ℕ} {at : Stripe} {p : Pair} → Going c k cell at p → Going c (suc (k - 1)) cell at p
+going-suc {k = k} g = rw (back k (going-some g)) g
+
+pub carried-suc : {c d : List ℕ} {k cell : ℕ} {at : Stripe} {p : Pair} → Going c k cell at p → Carried c (suc (k - 1)) cell at p d → Carried c k cell at p d
+carried-suc {k = k} g h = rw (back k (going-some g)) at h

@@ -1,17 +1,19 @@
 -- A pair that enters a sound pool: it goes down from the root, and the count moves.
-use Prim.Native.Nat.{ℕ, _+_, _≤_, _<_}
+use Prim.Native.Nat.{ℕ, _+_, _-_, _≤_, _<_}
 use mathlib.Core.Path.{_≡_, refl, sym, _∙_}
 use mathlib.Core.Logic.{_≢_}
 use mathlib.Core.Bool.{Bool, true, false}
 use mathlib.Core.List.{List}
 use native.Mathlib.Omega.{arith}
-use lib.ListN.{set, length-set}
+use lib.Dec.{ltb}
+use lib.ListN.{length, getD, set, length-set}
 use lib.Seq.{getD-set-same, getD-set-other}
 use Rattle.rule.specs.declared.Pair.{Pair}
 use Rattle.rule.specs.Plain.{hasX}
-use Rattle.rule.specs.Stripe.{Stripe, rootStripe}
+use Rattle.rule.specs.Pairs.{beats}
+use Rattle.rule.specs.Stripe.{Stripe, rootStripe, middle, partOf}
 use Rattle.rule.specs.Changes.{met}
-use Rattle.rule.specs.Cells.{Fits, rootOf, freeOf, countOf, stored, treeAt}
+use Rattle.rule.specs.Cells.{Fits, rootOf, freeOf, countOf, pairAt, sonAt, linkCell, stored, treeAt}
 use Rattle.rule.specs.Sound.{Sound, allLevels, itself}
 use Rattle.rule.specs.Laid.{inserted}
 use Rattle.rule.proofs.Tests.{on, clash}
@@ -28,9 +30,11 @@ use Rattle.rule.proofs.Slots.{sound-distinct, tree-slot}
 use Rattle.rule.proofs.Stored.{stored-mem}
 use Rattle.rule.proofs.Inserted.{grown, taken-first, taken-out, grown-down, grown-well, inserted-one}
 use Rattle.halving.specs.Sought.{Sought}
+use Rattle.halving.proofs.Searching.{there, sought-on, goes-on as met-on}
 use Rattle.changes.specs.Places.{Replaced}
 use Rattle.changes.proofs.Links.{agree-cells}
-use Rattle.down.specs.Down.{Enters, Going, Carried}
+use Rattle.down.specs.Down.{Enters, Going, Carried, Reached}
+use Rattle.down.proofs.Carrying.{passes, passed}
 
 -- whether x is stored
 module _ {c : List ℕ} (s : Sound c) where
@@ -54,6 +58,16 @@ module _ {c : List ℕ} (s : Sound c) where
   -- law: a pair whose x is not stored may enter where a slot is free
   pub enters : (p : Pair) → hasX (p .x) (stored c) ≡ false → freeOf c ≢ 0 → Enters c p
   enters p f r = record { sound = s; new = unstored-new (p .x) f; room = r }
+
+linked : (c : List ℕ) (s : ℕ) (b : Bool) → getD c (linkCell s b) 0 ≡ sonAt c s b
+unfolding linkCell sonAt
+linked c s true = refl
+linked c s false = refl
+
+link-inside : (c : List ℕ) (s : ℕ) (b : Bool) → Fits c s → linkCell s b < length c
+unfolding linkCell
+link-inside c s true h = omega arith
+link-inside c s false h = omega arith
 
 module _ {c : List ℕ} {p : Pair} (n : Enters c p) where
   header-there : Fits c 0
@@ -105,3 +119,31 @@ module _ {c : List ℕ} {p : Pair} (n : Enters c p) where
           rest = λ u o m. let a = o .some in
               agree-cells u (λ j q. getD-set-other d 3 j v 0 (λ i. omega arith) ∙ R .rest j (λ i. omega arith) (λ i. omega arith) (λ k. m (rw q at k)));
         }))
+
+-- law: the way down starts at the root
+pub reached-root : {c : List ℕ} {p : Pair} {at : Stripe} → Sound c → p .x < 4294967296 → at ≡ rootStripe → Reached c p allLevels 1 at
+reached-root {c} {p} {at} s b ea =
+    let h = header-fits (s .pool) in
+    record {
+      inside = omega arith;
+      sought = root-sought s (rootOf c) at refl ea;
+      same = root-met s (p .x) (rootOf c) at _ refl ea refl;
+      going = λ n. root-going n b ea;
+      whole = λ n d h. rw ea at h;
+    }
+
+-- law: on past a pair that p does not beat
+pub reached-on : {c : List ℕ} {k cell : ℕ} {at : Stripe} {p q : Pair} {t : Bool} → Reached c p k cell at → (getD c cell 0 ≡ 0 → ⊥) → q ≡ pairAt c (getD c cell 0)
+    → (q .x ≡ p .x → ⊥) → t ≡ beats p q → t ≡ false → {side : Bool} {cell′ : ℕ} {at′ : Stripe} → side ≡ ltb (p .x) (middle at) → cell′ ≡ linkCell (getD c cell 0) side
+    → at′ ≡ partOf at (p .x) → Reached c p (k - 1) cell′ at′
+reached-on {c} {k} {cell} {at} {p} R ne eq nx et f {side} {cell′} {at′} eb ec ea =
+    let s = getD c cell 0 in
+    let nx′ : pairAt c s .x ≡ p .x → ⊥ = rw eq at nx in
+    let es : getD c cell′ 0 ≡ sonAt c s side = rw ec (linked c s side) in
+    record {
+      inside = rw ec (link-inside c s side (there c k s at (p .x) (R .sought) ne));
+      sought = sought-on c k s at (p .x) (R .sought) ne nx′ side _ at′ eb es ea;
+      same = met-on c k s at (p .x) (R .sought) ne nx′ side _ at′ eb es ea ∙ R .same;
+      going = λ n. passes ne eq et f eb ec ea (R .going n);
+      whole = λ n d h. R .whole n d (passed ne eq et f eb ec ea (R .going n) h);
+    }

@@ -8,7 +8,7 @@ ghost use Rattle.rule.specs.Laid.{inserted};
 ghost use Rattle.rule.specs.Plain.{hasX};
 ghost use Rattle.rule.specs.Shape.{stripeOf};
 ghost use Rattle.rule.specs.Sound.{Sound};
-ghost use Rattle.down.specs.Down.{Enters, Going, Carried, Settled, Room, taken};
+ghost use Rattle.down.specs.Down.{Enters, Going, Carried, Settled, Room, Reached, taken};
 
 // Where a pair meets a slot's, the better one stays there, and the beaten one goes on.
 fn settle(pool: &mut [u32], slot: u32, p: Pair) -> Pair
@@ -56,26 +56,56 @@ fn carry(pool: &mut [u32], levels: u32, cell: usize, at: Stripe, p: Pair)
     );
 }
 
-// Stores a pair whose x is new, in a pool with a free slot.
-pub fn insert(pool: &mut [u32], p: Pair)
-    requires { ⌜ Enters (now pool) p ⌝ }
+// A place of the tree: the cell of its link, its stripe, and the levels from it down.
+pub struct Place {
+    pub levels: u32,
+    pub cell: usize,
+    pub at: Stripe,
+}
+
+// The first place on p's way down that is empty, or holds p's x or a pair that p beats. Above it p changes nothing.
+pub fn place_for(pool: &[u32], p: Pair) -> Place
+    requires { ⌜ Sound (now pool) ⌝ }
+    ensures { λ r. ⌜ Reached (now (pool .entry)) p (r .levels) (r .cell) (stripeOf (r .at)) ⌝ }
+{
+    let mut levels = Stripe::LEVELS + 1;
+    let mut cell = cells::ROOT_CELL;
+    let mut at = Stripe::root();
+    loop {
+        let slot = pool[cell];
+        if slot == 0 {
+            return Place { levels, cell, at };
+        }
+        let q = cells::pair(pool, slot);
+        if q.x == p.x {
+            return Place { levels, cell, at };
+        }
+        if p.beats(q) {
+            return Place { levels, cell, at };
+        }
+        cell = cells::link_cell(slot, at.goes_left(p.x));
+        at = at.towards(p.x);
+        levels -= 1;
+    }
+}
+
+// Whether p's x is stored, with whatever y: it is looked for from that place on.
+pub fn is_stored(pool: &[u32], place: Place, p: Pair) -> bool
+    requires { ⌜ Reached (now pool) p (place .levels) (place .cell) (stripeOf (place .at)) ⌝ }
+    ensures { λ r. ⌜ r ≡ hasX (p .x) (stored (now (pool .entry))) ⌝ }
+{
+    let cell = place.cell;
+    let at = place.at;
+    halving::met(pool, place.levels, pool[cell], at, p.x)
+}
+
+// Stores a pair whose x is new, in a pool with a free slot: it goes down from that place.
+pub fn insert(pool: &mut [u32], place: Place, p: Pair)
+    requires { ⌜ Enters (now pool) p × Reached (now pool) p (place .levels) (place .cell) (stripeOf (place .at)) ⌝ }
     ensures { λ _. ⌜ now (pool .exit) ≡ inserted (now (pool .entry)) p ⌝ }
 {
     let count = cells::count(pool);
-    carry(pool, Stripe::LEVELS, cells::ROOT_CELL, Stripe::root(), p);
+    let at = place.at;
+    carry(pool, place.levels - 1, place.cell, at, p);
     cells::put_count(pool, count + 1);
-}
-
-// Whether x is stored, with whatever y.
-pub fn is_stored(pool: &[u32], x: u32) -> bool
-    requires { ⌜ Sound (now pool) ⌝ }
-    ensures { λ r. ⌜ r ≡ hasX x (stored (now (pool .entry))) ⌝ }
-{
-    halving::met(
-        pool,
-        Stripe::LEVELS + 1,
-        cells::root(pool),
-        Stripe::root(),
-        x,
-    )
 }

@@ -73,11 +73,11 @@ module _ {c : List ℕ} (s : Sound c) where
   header-out m = omega (arith, tree-slot s m .some)
 
   -- law: a sound pool can be searched from the root's cell
-  pub looking-root : {p : Pair} {at : Stripe} → at ≡ rootStripe → Looking c 32 1 at p
-  looking-root e =
+  pub looking-root : {p : Pair} → Looking c 32 1 rootStripe p
+  looking-root =
       let f = header-fits (s .pool) in
       let t = sound-tree c s in
-      rw e (record {
+      record {
         place = rw t (record {
           inside = omega arith;
           leads = s .links;
@@ -89,11 +89,11 @@ module _ {c : List ℕ} (s : Sound c) where
         low = low-root refl;
         narrow = omega arith;
         within = λ w. w;
-      })
+      }
 
-  module _ {p : Pair} {at : Stripe} (ea : at ≡ rootStripe) {r : Removal} {d : List ℕ} (R : Removed c 1 (placed c 33 1) at p r d) where
+  module _ {p : Pair} {r : Removal} {d : List ℕ} (R : Removed c 1 (placed c 33 1) rootStripe p r d) where
     removed : Removed c 1 (s .tree) rootStripe p r d
-    removed = rw (ea, sound-tree c s) at R
+    removed = rw (sound-tree c s) at R
 
     -- law: x is not stored
     pub deletes-missing : r ≡ Missing → Deletes c p Missing d

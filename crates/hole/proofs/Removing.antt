@@ -21,7 +21,7 @@ use Rattle.rule.proofs.Stripes.{low-part}
 use Rattle.rule.proofs.Leads.{back, tree-none, tree-fork, tree-within, leads-tree, leads-fits}
 use Rattle.hole.specs.declared.Removal.{Removal}
 use Rattle.hole.specs.declared.Removal.the-variants.{Done, Missing, Other}
-use Rattle.hole.specs.Hole.{placed, Place, Hole, Freed, Looking, Removed, missing, other, done}
+use Rattle.hole.specs.Hole.{placed, Place, Hole, Freed, Looking, Removed, missing, other, done, Reached, Found}
 use Rattle.hole.proofs.Forks.{forkOn, tree-on, mem-near, mem-on, partOn, Well-on, well-on, out-on}
 use Rattle.hole.proofs.Holes.{paired-same, son-place, freed-on}
 
@@ -145,3 +145,41 @@ module _ {c : List ℕ} {n cell : ℕ} {at : Stripe} {p : Pair} (o : Looking c n
         removed-on h =
             let x = rw eq at nx in
             rw (here-tree small x left (sym el)) (on-removed small x left (sym el) (rw (ea, es, ← el, next-tree small x left (sym el)) at h))
+
+-- law: the search starts at the root
+pub start : {c : List ℕ} {at : Stripe} {p : Pair} → Looking c 32 1 rootStripe p → at ≡ rootStripe → Reached c 32 1 at p
+start o e = rw e (record { looking = o; whole = λ r d h. h })
+
+module _ {c : List ℕ} {n cell : ℕ} {at : Stripe} {p : Pair} (R : Reached c n cell at p) where
+  -- law: an empty place
+  pub found-none : getD c cell 0 ≡ 0 → Found c p n cell
+  found-none z = record { at = at; reached = R; met = λ ne. absurd (ne z) }
+
+  -- law: x is met
+  pub found-met : {q : Pair} → q ≡ pairAt c (getD c cell 0) → q .x ≡ p .x → Found c p n cell
+  found-met e ex = record { at = at; reached = R; met = λ ne. rw e at ex }
+
+  -- law: on to the son on x's side
+  pub reached-on : (ne : getD c cell 0 ≢ 0) (b : p .x < rootStripe .upper) {q : Pair} (eq : q ≡ pairAt c (getD c cell 0)) (nx : q .x ≢ p .x)
+      {left : Bool} (el : left ≡ ltb (p .x) (middle at)) {son : ℕ} (es : son ≡ linkCell (getD c cell 0) left) {at′ : Stripe} (ea : at′ ≡ partOf at (p .x))
+      → Reached c (n - 1) son at′ p
+  reached-on ne b eq nx el es ea = record {
+    looking = looking-on (R .looking) ne b eq nx el es ea;
+    whole = λ r d h. R .whole r d (removed-on (R .looking) ne b eq nx el es ea h);
+  }
+
+-- law: where the place is empty, where another y is met, and where the pair is
+module _ {c : List ℕ} {p : Pair} {k cell : ℕ} (F : Found c p k cell) where
+  pub ends-missing : getD c cell 0 ≡ 0 → Removed c 1 (placed c 33 1) rootStripe p Missing c
+  ends-missing z = F .reached .whole Missing c (none-here (F .reached .looking) z)
+
+  module _ (ne : getD c cell 0 ≢ 0) {q : Pair} (eq : q ≡ pairAt c (getD c cell 0)) where
+    same-x : q .x ≡ p .x
+    same-x = ap (λ v. v .x) eq ∙ F .met ne
+
+    pub ends-other : q .y ≢ p .y → Removed c 1 (placed c 33 1) rootStripe p Other c
+    ends-other ny = F .reached .whole Other c (other-here (F .reached .looking) ne eq same-x ny)
+
+    pub ends-done : {d : List ℕ} → q .y ≡ p .y → Freed c cell (placed c (suc k) cell) (fill itself (placed c (suc k) cell)) d
+        → Removed c 1 (placed c 33 1) rootStripe p Done d
+    ends-done {d} ey f = F .reached .whole Done d (done-here (F .reached .looking) ne eq same-x ey f)

@@ -4,9 +4,9 @@ use rule::Stripe;
 ghost use mathlib.Core.Path.{_≡_};
 ghost use Prim.Native.Nat.{suc};
 ghost use Rattle.rule.specs.Changes.{fill};
-ghost use Rattle.rule.specs.Shape.{stripeOf};
+ghost use Rattle.rule.specs.Stripe.{rootStripe};
 ghost use Rattle.rule.specs.Sound.{Sound, itself};
-ghost use Rattle.hole.specs.Hole.{placed, Sons, Heirs, Promotes, promoted, Releases, released, Hole, Freed, Looking, Removed, Deletes};
+ghost use Rattle.hole.specs.Hole.{placed, Sons, Heirs, Promotes, promoted, Releases, released, Hole, Freed, Looking, Removed, Found, Deletes};
 
 // How a deletion ends.
 pub enum Removal {
@@ -73,25 +73,52 @@ fn fill(pool: &mut [u32], levels: u32, cell: usize)
     fill(pool, levels - 1, son);
 }
 
-// Takes p out at the place that a cell links to, with so many levels below it.
-fn remove(pool: &mut [u32], levels: u32, cell: usize, at: Stripe, p: Pair) -> Removal
-    requires { ⌜ Looking (now pool) levels cell (stripeOf at) p ⌝ }
-    ensures { λ r. ⌜ Removed (now (pool .entry)) cell (placed (now (pool .entry)) (suc levels) cell) (stripeOf at) p r (now (pool .exit)) ⌝ }
+// A place of the tree: the cell of its link, and the levels below it.
+struct Place {
+    levels: u32,
+    cell: usize,
+}
+
+// The place where x is met from the root, by halving the stripe, or the empty place where the search ends.
+fn find(pool: &[u32], p: Pair) -> Place
+    requires { ⌜ Looking (now pool) 32 1 rootStripe p ⌝ }
+    ensures { λ r. ⌜ Found (now (pool .entry)) p (r .levels) (r .cell) ⌝ }
 {
+    let mut levels = Stripe::LEVELS;
+    let mut cell = cells::ROOT_CELL;
+    let mut at = Stripe::root();
+    loop {
+        let slot = pool[cell];
+        if slot == 0 {
+            return Place { levels, cell };
+        }
+        let q = cells::pair(pool, slot);
+        if q.x == p.x {
+            return Place { levels, cell };
+        }
+        cell = cells::link_cell(slot, at.goes_left(p.x));
+        at = at.towards(p.x);
+        levels -= 1;
+    }
+}
+
+// Takes p out where its x is met.
+fn remove(pool: &mut [u32], p: Pair) -> Removal
+    requires { ⌜ Looking (now pool) 32 1 rootStripe p ⌝ }
+    ensures { λ r. ⌜ Removed (now (pool .entry)) 1 (placed (now (pool .entry)) 33 1) rootStripe p r (now (pool .exit)) ⌝ }
+{
+    let place = find(pool, p);
+    let cell = place.cell;
     let slot = pool[cell];
     if slot == 0 {
         return Removal::Missing;
     }
     let q = cells::pair(pool, slot);
-    if q.x == p.x {
-        if q.y != p.y {
-            return Removal::Other;
-        }
-        fill(pool, levels, cell);
-        return Removal::Done;
+    if q.y != p.y {
+        return Removal::Other;
     }
-    let son = cells::link_cell(slot, at.goes_left(p.x));
-    remove(pool, levels - 1, son, at.towards(p.x), p)
+    fill(pool, place.levels, cell);
+    Removal::Done
 }
 
 // Takes p out of a sound pool.
@@ -99,7 +126,7 @@ pub fn delete(pool: &mut [u32], p: Pair) -> Removal
     requires { ⌜ Sound (now pool) ⌝ }
     ensures { λ r. ⌜ Deletes (now (pool .entry)) p r (now (pool .exit)) ⌝ }
 {
-    let removal = remove(pool, Stripe::LEVELS, cells::ROOT_CELL, Stripe::root(), p);
+    let removal = remove(pool, p);
     match removal {
         Removal::Done => {
             let left = cells::count(pool) - 1;

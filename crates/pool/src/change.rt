@@ -12,13 +12,14 @@ fn insert_sound(pool: &mut [u32], p: Pair) -> Answer
     requires { ⌜ Sound (now pool) ⌝ }
     ensures { λ r. ⌜ Leaves (insertion (now (pool .entry)) p) (now (pool .exit)) r ⌝ }
 {
-    if down::is_stored(pool, p.x) {
+    let place = down::place_for(pool, p);
+    if down::is_stored(pool, place, p) {
         return sound::refused(codes::TAKEN);
     }
     if cells::first_free(pool) == 0 {
         return sound::refused(codes::FULL);
     }
-    down::insert(pool, p);
+    down::insert(pool, place, p);
     sound::finished()
 }
 

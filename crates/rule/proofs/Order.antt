@@ -80,8 +80,10 @@ beats-by-key p q a b = rw (a .key, b .key) (on (ltb (keyOf p) (keyOf q))
   where
     smaller-key : keyOf p < keyOf q → Beats p q
     smaller-key l = on (ltb (p .y) (q .y)) (λ t. lower (ltb-true _ _ t)) (λ f. let g = ltb-false (p .y) (q .y) f in level (omega (arith, l, g, a .low, b .low)) (omega (arith, l, g, a .low, b .low)))
+
     no : keyOf q ≤ keyOf p → Beats p q → ⊥
     no l (lower h) = omega (arith, h, l, a .low, b .low)
     no l (level h g) = omega (arith, h, g, l)
+
     not-smaller : keyOf q ≤ keyOf p → beats p q ≡ false
     not-smaller l = on (beats p q) (λ t. absurd (no l (beats-true p q t))) (λ f. f)

@@ -1,18 +1,22 @@
--- The search from the root.
-use Rattle.down.proofs.Entering.{root-sought, root-met}
+-- The search goes on from the place.
+use mathlib.Core.Path.{_∙_}
 use borrow.Author.Needs.{needs}
 use Rattle.down.proofs.is_stored.Statement.{statement}
 use Rattle.down.proofs.is_stored.Tie as tie
 
+mul-met : tie.Need-mul-met
+mul-met c = let h = c .before .before .pre .inside in search needs
+
+shared-slice-read-met : tie.Need-shared-slice-read-met
+shared-slice-read-met c = c .before .before .before .pre .inside
+
 met-requires : tie.Need-met-requires
-met-requires c κs =
-    let p1 = c .before in let p3 = p1 .before .before in
-    root-sought (p3 .pre) _ _ (p1 .root .ensures) (c .root2 .ensures)
+met-requires c κs = c .before .before .before .pre .sought
 
 returns : tie.Need-returns
 returns c =
-    let p1 = c .before in let p2 = p1 .before in let p4 = p2 .before .before in
-    root-met (p4 .pre) _ _ _ _ (p2 .root .ensures) (p1 .root2 .ensures) (c .met .ensures)
+    let p4 = c .before .before .before .before in
+    c .met .ensures ∙ p4 .pre .same
 
 pub is-stored-spec : {M : Type 1} → statement M
-is-stored-spec = tie.close (tie.spec (λ c. search needs) (λ c κs. search needs) (λ c κs. search needs) met-requires returns)
+is-stored-spec = tie.close (tie.spec mul-met shared-slice-read-met met-requires returns)
