@@ -1,5 +1,4 @@
-#!/usr/bin/env python3
-"""Makes the table and the picture from what was counted. Usage: report.py COUNTS MADE-BY RESULTS PICTURE"""
+"""Makes the table and the picture from what was counted. Usage: report.py COUNTS TOOLS RESULTS PICTURE"""
 
 import math
 import sys
@@ -25,8 +24,8 @@ random slot. Largest x: last to end at a random slot, no later than another. Sma
 4,096 slots from a random one. Listing: the strips that cover a slot near one end of the day, at most 16. A delete and an insert
 of the same pair are counted together.
 
-Rust: opt-level 3, lto, panic=abort, one codegen unit, no target features. Made by:
-{made_by}
+Rust: opt-level 3, lto, panic=abort, one codegen unit, no target features. Tools:
+{tools}
 """
 
 
@@ -229,11 +228,11 @@ def picture(counts):
 
 
 def main():
-    counts_path, made_by_path, results_path, picture_path = sys.argv[1:]
+    counts_path, tools_path, results_path, picture_path = sys.argv[1:]
     counts = Counts(counts_path)
-    with open(made_by_path, encoding="utf-8") as lines:
-        made_by = "".join(f"  {made}" for made in lines).rstrip()
-    results = [HEAD.format(calls=counts.calls, made_by=made_by)]
+    with open(tools_path, encoding="utf-8") as lines:
+        tools = "".join(f"  {tool}" for tool in lines).rstrip()
+    results = [HEAD.format(calls=counts.calls, tools=tools)]
     for n in counts.sizes:
         results += table(counts, n)
     results += [*small_tables(counts), *limits(counts)]

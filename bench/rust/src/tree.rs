@@ -96,6 +96,20 @@ pub fn insert(pool: &mut [u32], x: u32, y: u32) -> Answer {
     coded(DONE)
 }
 
+/// The link to the son that beats the other, that son, and its pair.
+fn heir(slots: &[Slot], slot: u32) -> Option<(usize, u32, u64)> {
+    let [_, _, left, right] = slots[slot as usize];
+    match (left, right) {
+        (0, 0) => None,
+        (0, _) => Some((RIGHT, right, key(&slots[right as usize]))),
+        (_, 0) => Some((LEFT, left, key(&slots[left as usize]))),
+        _ => {
+            let (l, r) = (key(&slots[left as usize]), key(&slots[right as usize]));
+            Some(if l < r { (LEFT, left, l) } else { (RIGHT, right, r) })
+        }
+    }
+}
+
 #[inline(never)]
 pub fn delete(pool: &mut [u32], x: u32, y: u32) -> Answer {
     let slots = slots_mut(pool);
@@ -117,21 +131,7 @@ pub fn delete(pool: &mut [u32], x: u32, y: u32) -> Answer {
         slot = met[link];
         bits <<= 1;
     }
-    loop {
-        let [_, _, left, right] = slots[slot as usize];
-        let (heir, son, pair) = match (left, right) {
-            (0, 0) => break,
-            (0, _) => (RIGHT, right, key(&slots[right as usize])),
-            (_, 0) => (LEFT, left, key(&slots[left as usize])),
-            _ => {
-                let (l, r) = (key(&slots[left as usize]), key(&slots[right as usize]));
-                if l < r {
-                    (LEFT, left, l)
-                } else {
-                    (RIGHT, right, r)
-                }
-            }
-        };
+    while let Some((heir, son, pair)) = heir(slots, slot) {
         put_key(&mut slots[slot as usize], pair);
         (at, link) = (slot as usize, heir);
         slot = son;
