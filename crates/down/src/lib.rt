@@ -77,10 +77,10 @@ pub fn place_for(pool: &[u32], p: Pair) -> Place
             return Place { levels, cell, at };
         }
         let q = cells::pair(pool, slot);
-        if q.x == p.x {
+        if p.beats(q) {
             return Place { levels, cell, at };
         }
-        if p.beats(q) {
+        if q.x == p.x {
             return Place { levels, cell, at };
         }
         cell = cells::link_cell(slot, at.goes_left(p.x));

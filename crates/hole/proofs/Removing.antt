@@ -15,7 +15,9 @@ use Rattle.rule.specs.Tree.{Tree, fork, Mem, here, Well}
 use Rattle.rule.specs.Changes.{fill, takeOut}
 use Rattle.rule.specs.Cells.{Fits, pairAt, leftAt, rightAt, sonAt, linkCell, treeAt}
 use Rattle.rule.specs.Sound.{itself}
+use Rattle.rule.proofs.Tests.{on}
 use Rattle.rule.proofs.Order.{pair-ext}
+use Rattle.rule.proofs.Levels.{levels}
 use Rattle.rule.proofs.Trees.{all-at, well-in}
 use Rattle.rule.proofs.Stripes.{low-part}
 use Rattle.rule.proofs.Leads.{back, tree-none, tree-fork, tree-within, leads-tree, leads-fits}
@@ -29,6 +31,10 @@ use Rattle.hole.proofs.Holes.{paired-same, son-place, freed-on}
 narrower : (left : Bool) (at : Stripe) (k : ℕ) → at .upper ≤ at .lower + 2 ^ suc k → partOn left at .upper ≤ partOn left at .lower + 2 ^ k
 narrower true at k h = let e = two-pow-succ k in omega arith
 narrower false at k h = let e = two-pow-succ k in omega arith
+
+smaller-part : (at : Stripe) (x : ℕ) → at .lower + 2 ≤ at .upper → partOf at x .upper - partOf at x .lower < at .upper - at .lower
+unfolding partOf
+smaller-part at x h = on (ltb x (middle at)) (λ t. rw t (omega arith)) (λ f. rw f (omega arith))
 
 inner : (left : Bool) (at : Stripe) (x : ℕ) → ltb x (middle at) ≡ left → In at x → In (partOn left at) x
 inner true at x e i = let l = ltb-true x (middle at) e in record { from = i .from; to = l }
@@ -76,6 +82,16 @@ module _ {c : List ℕ} {n cell : ℕ} {at : Stripe} {p : Pair} (o : Looking c n
         let i = w .inside in
         let j = o .within b in
         nx (omega arith)
+
+    -- law: so it has room for both
+    pub two-in : In rootStripe (p .x) → pairAt c (getD c cell 0) .x ≢ p .x → at .lower + 2 ≤ at .upper
+    two-in b nx =
+        let w : Well itself at (fork (getD c cell 0) (pairAt c (getD c cell 0)) (treeAt c n (leftAt c (getD c cell 0))) (treeAt c n (rightAt c (getD c cell 0)))) = rw (tree-fork c n (getD c cell 0) ne) at (o .well) in
+        let i = w .inside in
+        let j = o .within b in
+        let f = i .from in
+        let t = i .to in
+        omega (arith, nx)
 
     module _ (b : In rootStripe (p .x)) (nx : pairAt c (getD c cell 0) .x ≢ p .x) (left : Bool) (side : ltb (p .x) (middle at) ≡ left) where
       abbrev s : ℕ
@@ -147,29 +163,47 @@ module _ {c : List ℕ} {n cell : ℕ} {at : Stripe} {p : Pair} (o : Looking c n
             rw (here-tree small x left (sym el)) (on-removed small x left (sym el) (rw (ea, es, ← el, next-tree small x left (sym el)) at h))
 
 -- law: the search starts at the root
-pub start : {c : List ℕ} {at : Stripe} {p : Pair} → Looking c 32 1 rootStripe p → at ≡ rootStripe → Reached c 32 1 at p
-start o e = rw e (record { looking = o; whole = λ r d h. h })
+pub start : {c : List ℕ} {at : Stripe} {p : Pair} → Looking c 32 1 rootStripe p → at ≡ rootStripe → Reached c 1 at p
+start o e = rw e (record { levels = 32; looking = o; whole = λ r d h. h })
 
-module _ {c : List ℕ} {n cell : ℕ} {at : Stripe} {p : Pair} (R : Reached c n cell at p) where
+module _ {c : List ℕ} {cell : ℕ} {at : Stripe} {p : Pair} (R : Reached c cell at p) where
   -- law: an empty place
-  pub found-none : getD c cell 0 ≡ 0 → Found c p n cell
+  pub found-none : getD c cell 0 ≡ 0 → Found c p cell
   found-none z = record { at = at; reached = R; met = λ ne. absurd (ne z) }
 
   -- law: x is met
-  pub found-met : {q : Pair} → q ≡ pairAt c (getD c cell 0) → q .x ≡ p .x → Found c p n cell
+  pub found-met : {q : Pair} → q ≡ pairAt c (getD c cell 0) → q .x ≡ p .x → Found c p cell
   found-met e ex = record { at = at; reached = R; met = λ ne. rw e at ex }
 
-  -- law: on to the son on x's side
-  pub reached-on : (ne : getD c cell 0 ≢ 0) (b : p .x < rootStripe .upper) {q : Pair} (eq : q ≡ pairAt c (getD c cell 0)) (nx : q .x ≢ p .x)
-      {left : Bool} (el : left ≡ ltb (p .x) (middle at)) {son : ℕ} (es : son ≡ linkCell (getD c cell 0) left) {at′ : Stripe} (ea : at′ ≡ partOf at (p .x))
-      → Reached c (n - 1) son at′ p
-  reached-on ne b eq nx el es ea = record {
-    looking = looking-on (R .looking) ne b eq nx el es ea;
-    whole = λ r d h. R .whole r d (removed-on (R .looking) ne b eq nx el es ea h);
-  }
+  -- the place's tree, read as deep as any
+  whole-tree : placed c 33 cell ≡ placed c (suc (R .levels)) cell
+  whole-tree =
+      let o = R .looking in
+      let l = o .low in
+      leads-tree c 33 (o .place .leads) (levels itself at 32 (placed c (suc (R .levels)) cell) (o .well) (omega (arith, l)))
+
+  module _ (ne : getD c cell 0 ≢ 0) where
+    pub hole-there : Hole c 33 cell
+    hole-there = record { place = rw whole-tree (R .looking .place); there = ne }
+
+    module _ (b : p .x < rootStripe .upper) {q : Pair} (eq : q ≡ pairAt c (getD c cell 0)) (nx : q .x ≢ p .x) {at′ : Stripe} (ea : at′ ≡ partOf at (p .x)) where
+      -- law: the part is smaller
+      pub narrows : at′ .upper - at′ .lower < at .upper - at .lower
+      narrows =
+          let o = R .looking in
+          let i = two-in o ne (record { from = omega arith; to = b }) (rw eq at nx) in
+          rw ea (smaller-part at (p .x) i)
+
+      -- law: on to the son on x's side
+      pub reached-on : {left : Bool} (el : left ≡ ltb (p .x) (middle at)) {son : ℕ} (es : son ≡ linkCell (getD c cell 0) left) → Reached c son at′ p
+      reached-on el es = record {
+        levels = R .levels - 1;
+        looking = looking-on (R .looking) ne b eq nx el es ea;
+        whole = λ r d h. R .whole r d (removed-on (R .looking) ne b eq nx el es ea h);
+      }
 
 -- law: where the place is empty, where another y is met, and where the pair is
-module _ {c : List ℕ} {p : Pair} {k cell : ℕ} (F : Found c p k cell) where
+module _ {c : List ℕ} {p : Pair} {cell : ℕ} (F : Found c p cell) where
   pub ends-missing : getD c cell 0 ≡ 0 → Removed c 1 (placed c 33 1) rootStripe p Missing c
   ends-missing z = F .reached .whole Missing c (none-here (F .reached .looking) z)
 
@@ -180,6 +214,5 @@ module _ {c : List ℕ} {p : Pair} {k cell : ℕ} (F : Found c p k cell) where
     pub ends-other : q .y ≢ p .y → Removed c 1 (placed c 33 1) rootStripe p Other c
     ends-other ny = F .reached .whole Other c (other-here (F .reached .looking) ne eq same-x ny)
 
-    pub ends-done : {d : List ℕ} → q .y ≡ p .y → Freed c cell (placed c (suc k) cell) (fill itself (placed c (suc k) cell)) d
-        → Removed c 1 (placed c 33 1) rootStripe p Done d
-    ends-done {d} ey f = F .reached .whole Done d (done-here (F .reached .looking) ne eq same-x ey f)
+    pub ends-done : {d : List ℕ} → q .y ≡ p .y → Freed c cell (placed c 33 cell) (fill itself (placed c 33 cell)) d → Removed c 1 (placed c 33 1) rootStripe p Done d
+    ends-done {d} ey f = F .reached .whole Done d (done-here (F .reached .looking) ne eq same-x ey (rw (whole-tree (F .reached)) at f))

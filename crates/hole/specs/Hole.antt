@@ -87,15 +87,16 @@ pub data Removed (c : List ℕ) (cell : ℕ) (t : Tree Pair) (at : Stripe) (p : 
   other : (q : Pair) → Mem q t → q .x ≡ p .x → (q .y ≡ p .y → ⊥) → Removed c cell t at p Other c
   done : {d : List ℕ} → Mem p t → Freed c cell t (takeOut itself (p .x) at t) d → Removed c cell t at p Done d
 
--- on the way to p's x, at a place with k levels below it and the stripe `at`: how a removal ends there it ends for the whole tree
-pub record Reached (c : List ℕ) (k cell : ℕ) (at : Stripe) (p : Pair) : Type 0 where
-  pub looking : Looking c k cell at p
-  pub whole : (r : Removal) (d : List ℕ) → Removed c cell (placed c (suc k) cell) at p r d → Removed c 1 (placed c 33 1) rootStripe p r d
+-- on the way to p's x, at a place with the stripe `at`: how a removal ends there it ends for the whole tree
+pub record Reached (c : List ℕ) (cell : ℕ) (at : Stripe) (p : Pair) : Type 0 where
+  pub levels : ℕ
+  pub looking : Looking c levels cell at p
+  pub whole : (r : Removal) (d : List ℕ) → Removed c cell (placed c (suc levels) cell) at p r d → Removed c 1 (placed c 33 1) rootStripe p r d
 
 -- the place where p's x is met, or an empty one
-pub record Found (c : List ℕ) (p : Pair) (k cell : ℕ) : Type 0 where
+pub record Found (c : List ℕ) (p : Pair) (cell : ℕ) : Type 0 where
   pub at : Stripe
-  pub reached : Reached c k cell at p
+  pub reached : Reached c cell at p
   pub met : getD c cell 0 ≢ 0 → pairAt c (getD c cell 0) .x ≡ p .x
 
 -- how a deletion ends, over the stored list

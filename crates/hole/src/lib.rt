@@ -73,32 +73,24 @@ fn fill(pool: &mut [u32], levels: u32, cell: usize)
     fill(pool, levels - 1, son);
 }
 
-// A place of the tree: the cell of its link, and the levels below it.
-struct Place {
-    levels: u32,
-    cell: usize,
-}
-
-// The place where x is met from the root, by halving the stripe, or the empty place where the search ends.
-fn find(pool: &[u32], p: Pair) -> Place
+// The cell of the link to the slot where x is met from the root, by halving the stripe, or of the empty link where the search ends.
+fn find(pool: &[u32], p: Pair) -> usize
     requires { ⌜ Looking (now pool) 32 1 rootStripe p ⌝ }
-    ensures { λ r. ⌜ Found (now (pool .entry)) p (r .levels) (r .cell) ⌝ }
+    ensures { λ r. ⌜ Found (now (pool .entry)) p r ⌝ }
 {
-    let mut levels = Stripe::LEVELS;
     let mut cell = cells::ROOT_CELL;
     let mut at = Stripe::root();
     loop {
         let slot = pool[cell];
         if slot == 0 {
-            return Place { levels, cell };
+            return cell;
         }
         let q = cells::pair(pool, slot);
         if q.x == p.x {
-            return Place { levels, cell };
+            return cell;
         }
         cell = cells::link_cell(slot, at.goes_left(p.x));
         at = at.towards(p.x);
-        levels -= 1;
     }
 }
 
@@ -107,8 +99,7 @@ fn remove(pool: &mut [u32], p: Pair) -> Removal
     requires { ⌜ Looking (now pool) 32 1 rootStripe p ⌝ }
     ensures { λ r. ⌜ Removed (now (pool .entry)) 1 (placed (now (pool .entry)) 33 1) rootStripe p r (now (pool .exit)) ⌝ }
 {
-    let place = find(pool, p);
-    let cell = place.cell;
+    let cell = find(pool, p);
     let slot = pool[cell];
     if slot == 0 {
         return Removal::Missing;
@@ -117,7 +108,7 @@ fn remove(pool: &mut [u32], p: Pair) -> Removal
     if q.y != p.y {
         return Removal::Other;
     }
-    fill(pool, place.levels, cell);
+    fill(pool, Stripe::LEVELS, cell);
     Removal::Done
 }
 

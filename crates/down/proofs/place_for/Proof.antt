@@ -32,7 +32,7 @@ pair-requires c κs =
     there _ _ _ _ 0 (p2 .loop .inv .sought) (c .if1 .left)
 
 returns-2 : tie.Need-returns-2 Inv-loop μ-loop
-returns-2 c = c .before .before .before .before .before .before .loop .inv
+returns-2 c = c .before .before .before .before .before .loop .inv
 
 returns-3 : tie.Need-returns-3 Inv-loop μ-loop
 returns-3 c = c .before .before .before .before .before .before .before .before .loop .inv
@@ -51,8 +51,8 @@ loop-less c = let d = deep _ _ _ _ 0 (c .before .before .before .before .before 
 
 loop-again : tie.Need-loop-again Inv-loop μ-loop
 loop-again c =
-    let p1 = c .before in let p2 = p1 .before in let p3 = p2 .before in let p4 = p3 .before in let p5 = p4 .before in let p8 = p5 .before .before .before in let p9 = p8 .before in let p11 = p9 .before .before in
-    reached-on (p11 .loop .inv) (p9 .if1 .left) (p8 .pair .ensures) (p5 .if2 .left) (p4 .beats .ensures) (p3 .if3 .left) (p2 .goes-left .ensures) (p1 .link-cell .ensures) (c .towards .ensures)
+    let p1 = c .before in let p2 = p1 .before in let p3 = p2 .before in let p6 = p3 .before .before .before in let p7 = p6 .before in let p8 = p7 .before in let p9 = p8 .before in let p11 = p9 .before .before in
+    reached-on (p11 .loop .inv) (p9 .if1 .left) (p8 .pair .ensures) (p3 .if3 .left) (p7 .beats .ensures) (p6 .if2 .left) (p2 .goes-left .ensures) (p1 .link-cell .ensures) (c .towards .ensures)
 
 pub place-for-spec : {M : Type 1} → statement M
 place-for-spec =
@@ -67,8 +67,8 @@ place-for-spec =
     shared-slice-read-slot
     returns
     pair-requires
-    returns-2
     (λ c κs. search needs)
+    returns-2
     returns-3
     goes-left-requires
     (λ c κs. search needs)

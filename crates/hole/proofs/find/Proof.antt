@@ -1,18 +1,18 @@
--- The invariant: how a removal ends at the place, it ends for the whole tree.
+-- The invariant: how a removal ends at the place, it ends for the whole tree. The stripe gets smaller.
 use Prim.Native.Nat.{_-_}
 use native.Mathlib.Omega.{arith}
 use Rattle.rule.specs.Shape.{stripeOf}
 use Rattle.hole.specs.Hole.{Reached}
-use Rattle.hole.proofs.Removing.{met-fits, deeper, start, found-none, found-met, reached-on}
+use Rattle.hole.proofs.Removing.{met-fits, start, found-none, found-met, narrows, reached-on}
 use borrow.Author.Needs.{needs}
 use Rattle.hole.proofs.find.Statement.{statement}
 use Rattle.hole.proofs.find.Tie as tie
 
 abbrev Inv-loop : tie.InvT-loop
-Inv-loop pool p levels₀ cell₀ at₀ levels cell at = Reached pool levels cell (stripeOf at) p
+Inv-loop pool p cell₀ at₀ cell at = Reached pool cell (stripeOf at) p
 
 abbrev μ-loop : tie.MeasureT-loop
-μ-loop pool p levels₀ cell₀ at₀ levels cell at = levels
+μ-loop pool p cell₀ at₀ cell at = at .upper - at .lower
 
 loop-holds : tie.Need-loop-holds Inv-loop μ-loop
 loop-holds c =
@@ -46,14 +46,11 @@ goes-left-requires c κs = c .before .before .before .before .before .before .lo
 towards-requires : tie.Need-towards-requires Inv-loop μ-loop
 towards-requires c κs = c .before .before .before .before .before .before .before .before .loop .inv .looking .low
 
-sub-levels : tie.Need-sub-levels Inv-loop μ-loop
-sub-levels c = let d = deeper (c .before .before .before .before .before .before .before .before .before .loop .inv .looking) (c .before .before .before .before .before .before .before .if1 .left) (omega (arith, c .before .before .before .before .struct-known2 .given .0)) (c .before .before .before .before .before .before .pair .ensures) (c .before .before .before .if2 .left) in omega arith
-
 loop-less : tie.Need-loop-less Inv-loop μ-loop
-loop-less c = let d = deeper (c .before .before .before .before .before .before .before .before .before .loop .inv .looking) (c .before .before .before .before .before .before .before .if1 .left) (omega (arith, c .before .before .before .before .struct-known2 .given .0)) (c .before .before .before .before .before .before .pair .ensures) (c .before .before .before .if2 .left) in omega arith
+loop-less c = narrows (c .before .before .before .before .before .before .before .before .before .loop .inv) (c .before .before .before .before .before .before .before .if1 .left) (omega (arith, c .before .before .before .before .struct-known2 .given .0)) (c .before .before .before .before .before .before .pair .ensures) (c .before .before .before .if2 .left) (c .towards .ensures)
 
 loop-again : tie.Need-loop-again Inv-loop μ-loop
-loop-again c = reached-on (c .before .before .before .before .before .before .before .before .before .loop .inv) (c .before .before .before .before .before .before .before .if1 .left) (omega (arith, c .before .before .before .before .struct-known2 .given .0)) (c .before .before .before .before .before .before .pair .ensures) (c .before .before .before .if2 .left) (c .before .before .goes-left .ensures) (c .before .link-cell .ensures) (c .towards .ensures)
+loop-again c = reached-on (c .before .before .before .before .before .before .before .before .before .loop .inv) (c .before .before .before .before .before .before .before .if1 .left) (omega (arith, c .before .before .before .before .struct-known2 .given .0)) (c .before .before .before .before .before .before .pair .ensures) (c .before .before .before .if2 .left) (c .towards .ensures) (c .before .before .goes-left .ensures) (c .before .link-cell .ensures)
 
 pub find-spec : {M : Type 1} → statement M
 find-spec =
@@ -71,6 +68,5 @@ find-spec =
     goes-left-requires
     (λ c κs. search needs)
     towards-requires
-    sub-levels
     loop-less
     loop-again)

@@ -1,5 +1,5 @@
 -- The place is empty, holds another y, or holds the pair.
-use Rattle.hole.proofs.Removing.{met-fits, met-hole, ends-missing, ends-other, ends-done}
+use Rattle.hole.proofs.Removing.{met-fits, hole-there, ends-missing, ends-other, ends-done}
 use borrow.Author.Needs.{needs}
 use Rattle.hole.proofs.remove.Statement.{statement}
 use Rattle.hole.proofs.remove.Tie as tie
@@ -31,7 +31,7 @@ returns-2 c =
 fill-requires : tie.Need-fill-requires
 fill-requires c κs =
     let p6 = c .before .before .before .before .before .before in let p8 = p6 .before .before in
-    met-hole (p8 .find .ensures .reached .looking) (p6 .if1 .left)
+    hole-there (p8 .find .ensures .reached) (p6 .if1 .left)
 
 returns-3 : tie.Need-returns-3
 returns-3 c =
