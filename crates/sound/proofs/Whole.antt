@@ -5,40 +5,18 @@ use mathlib.Core.Bool.{Bool, true, false, _&&_}
 use mathlib.Core.List.{List}
 use lib.Dec.{eqb}
 use borrow.Author.Tests.{eq-eqb, ne-eqb}
-use Rattle.rule.specs.Stripe.{Stripe, rootStripe}
 use Rattle.rule.specs.Tree.{size}
 use Rattle.rule.specs.Cells.{markOf, rootOf, treeAt}
-use Rattle.rule.specs.Sound.{Pool, lowLevels, allLevels}
-use Rattle.rule.specs.Test.{slotFine, rootFine, restFine, isSound}
-use Rattle.rule.proofs.Leads.{tree-none, tree-fork}
+use Rattle.rule.specs.Sound.{Pool, allLevels}
+use Rattle.rule.specs.Test.{rootFine, restFine, isSound}
 use Rattle.rule.proofs.Decided.{true-pool}
-use Rattle.sound.specs.declared.tree.Checked.{Checked}
-use Rattle.sound.specs.declared.tree.Checked.the-variants.{Counted, Faulty}
-use Rattle.sound.specs.declared.chain.Verdict.{Verdict}
-use Rattle.sound.specs.declared.chain.Verdict.the-variants.{Sound, Faulty as Unsound}
-use Rattle.sound.specs.Checked.{fromSlot, fromRoot, verdict, restVerdict}
-use Rattle.sound.proofs.Counting.{was-counted, was-faulty}
-
-module _ (c : List ℕ) (root : ℕ) (er : root ≡ rootOf c) where
-  pub no-root : root ≡ 0 → Counted 0 ≡ fromRoot c
-  unfolding fromRoot rootFine
-  no-root e = let z : rootOf c ≡ 0 = sym er ∙ e in rw (eq-eqb (rootOf c) 0 z, tree-none c allLevels (rootOf c) z)
-
-  module _ (ne : root ≡ 0 → ⊥) (at : Stripe) (b : Bool) (ea : at ≡ rootStripe) (eb : b ≡ slotFine c root at) where
-    some-root : rootOf c ≡ 0 → ⊥
-    some-root = rw er at ne
-
-    pub bad-root : b ≡ false → Faulty ≡ fromRoot c
-    unfolding fromRoot rootFine
-    bad-root f =
-        let h : slotFine c (rootOf c) rootStripe ≡ false = rw (er, ea) at (sym eb ∙ f) in
-        rw (ne-eqb (rootOf c) 0 some-root, h)
-
-    pub good-root : (w : Checked) (at′ : Stripe) → b ≡ true → at′ ≡ rootStripe → w ≡ fromSlot c lowLevels root at′ → w ≡ fromRoot c
-    unfolding fromRoot rootFine fromSlot
-    good-root w at′ t ea′ e =
-        let h : slotFine c (rootOf c) rootStripe ≡ true = rw (er, ea) at (sym eb ∙ t) in
-        rw (ne-eqb (rootOf c) 0 some-root, h, tree-fork c lowLevels (rootOf c) some-root) (rw (er, ea′) at e)
+use Rattle.tree.specs.declared.Checked.{Checked}
+use Rattle.tree.specs.declared.Checked.the-variants.{Counted, Faulty}
+use Rattle.chain.specs.declared.Verdict.{Verdict}
+use Rattle.chain.specs.declared.Verdict.the-variants.{Sound, Faulty as Unsound}
+use Rattle.tree.specs.Checked.{fromRoot}
+use Rattle.tree.proofs.Counting.{was-counted, was-faulty}
+use Rattle.chain.specs.Judged.{verdict, restVerdict}
 
 -- the whole, in a pool of the right length
 module _ (c : List ℕ) (p : Pool c) where

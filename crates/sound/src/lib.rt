@@ -1,7 +1,4 @@
 // Set up and check: the two calls that accept any cells at all.
-mod chain;
-mod tree;
-
 use chain::Verdict;
 use rule::Answer;
 use rule::Outcome;

@@ -1,0 +1,39 @@
+-- What the tree part of the check yields.
+use Prim.Native.Nat.{ℕ, _+_}
+use mathlib.Core.Path.{_≡_}
+use mathlib.Core.Bool.{Bool, true, false, cond}
+use mathlib.Core.List.{List}
+use Rattle.rule.specs.declared.Pair.{Pair}
+use Rattle.rule.specs.Pairs.{beats}
+use Rattle.rule.specs.Stripe.{Stripe}
+use Rattle.rule.specs.Tree.{size}
+use Rattle.rule.specs.Cells.{rootOf, pairAt, leftAt, rightAt, treeAt}
+use Rattle.rule.specs.Sound.{allLevels}
+use Rattle.rule.specs.Test.{slotFine, fine, below, rootFine}
+use Rattle.tree.specs.declared.Checked.{Checked}
+use Rattle.tree.specs.declared.Checked.the-variants.{Counted, Faulty}
+use Rattle.tree.specs.declared.Place.{Place}
+use Rattle.tree.specs.declared.Place.the-variants.{Empty, Leaf, Fork, Bad}
+
+-- so many slots where all is fine, or faulty
+abbrev pub counted : Bool → ℕ → Checked
+counted ok n = cond ok (Counted n) Faulty
+
+-- from a link down
+unfoldable pub fromLink : List ℕ → ℕ → Pair → ℕ → Stripe → Checked
+fromLink c k p s at = counted (fine c k p s at) (size (treeAt c k s))
+
+-- from a slot down whose own tests have passed
+unfoldable pub fromSlot : List ℕ → ℕ → ℕ → Stripe → Checked
+fromSlot c k s at = counted (below c k s at) (size (treeAt c k (leftAt c s)) + size (treeAt c k (rightAt c s)) + 1)
+
+-- from the root down
+unfoldable pub fromRoot : List ℕ → Checked
+fromRoot c = counted (rootFine c) (size (treeAt c allLevels (rootOf c)))
+
+-- what stands at a son's place, where k levels are left: nothing, a slot that passes its own tests, without sons or with, or a fault
+pub data Stands (c : List ℕ) (k : ℕ) (p : Pair) (s : ℕ) (at : Stripe) : Place → Type 0 where
+  empty : s ≡ 0 → Stands c k p s at Empty
+  leaf : (s ≡ 0 → ⊥) → (k ≡ 0 → ⊥) → slotFine c s at ≡ true → beats p (pairAt c s) ≡ true → leftAt c s ≡ 0 → rightAt c s ≡ 0 → Stands c k p s at Leaf
+  branch : (s ≡ 0 → ⊥) → (k ≡ 0 → ⊥) → slotFine c s at ≡ true → beats p (pairAt c s) ≡ true → Stands c k p s at Fork
+  bad : fine c k p s at ≡ false → Stands c k p s at Bad

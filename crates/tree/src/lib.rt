@@ -1,0 +1,124 @@
+// The tree part of the check. A slot is tested before anything below it is looked at.
+use rule::Pair;
+use rule::Stripe;
+ghost use mathlib.Core.Path.{_≡_};
+ghost use mathlib.Core.Bool.{not};
+ghost use Prim.Native.Nat.{_≤_};
+ghost use Rattle.rule.specs.Cells.{Fits, treeAt};
+ghost use Rattle.rule.specs.Shape.{stripeOf};
+ghost use Rattle.rule.specs.Sound.{Pool};
+ghost use Rattle.rule.specs.Stripe.{Low};
+ghost use Rattle.rule.specs.Test.{alone, slotFine};
+ghost use Rattle.tree.specs.Checked.{fromLink, fromSlot, fromRoot, Stands};
+ghost use Rattle.halving.specs.Sought.{Sought};
+
+// The slots from a place down, or that one is faulty.
+pub enum Checked {
+    Counted(u64),
+    Faulty,
+}
+
+// What stands at a son's place.
+pub enum Place {
+    Empty,
+    Leaf,
+    Fork,
+    Bad,
+}
+
+// Whether a slot's x is met below it.
+fn again(pool: &[u32], levels: u32, left: u32, right: u32, at: Stripe, x: u32) -> bool
+    requires { ⌜ Sought (now pool) levels left (stripeOf at) × Sought (now pool) levels right (stripeOf at) ⌝ }
+    ensures { λ r. ⌜ not r ≡ alone x (stripeOf at) (treeAt (now (pool .entry)) levels left) (treeAt (now (pool .entry)) levels right) ⌝ }
+{
+    if at.goes_left(x) {
+        return halving::met(pool, levels, left, at.left(), x);
+    }
+    halving::met(pool, levels, right, at.right(), x)
+}
+
+// Whether a slot's number is one of the pool's, and its x lies in its stripe.
+fn slot_fine(pool: &[u32], slot: u32, at: Stripe) -> bool
+    requires { ⌜ 1 ≤ slot ⌝ }
+    ensures { λ r. ⌜ r ≡ slotFine (now (pool .entry)) slot (stripeOf at) ⌝ }
+{
+    if pool.len() / cells::PER_SLOT <= slot as usize {
+        return false;
+    }
+    let p = cells::pair(pool, slot);
+    at.holds(p.x)
+}
+
+// What stands at a son's place, below a slot with the pair p and with so many levels left.
+fn place_of(pool: &[u32], levels: u32, p: Pair, son: u32, at: Stripe) -> Place
+    ensures { λ r. ⌜ Stands (now (pool .entry)) levels p son (stripeOf at) r ⌝ }
+{
+    if son == 0 {
+        return Place::Empty;
+    }
+    if levels == 0 {
+        return Place::Bad;
+    }
+    if !slot_fine(pool, son, at) {
+        return Place::Bad;
+    }
+    if !p.beats(cells::pair(pool, son)) {
+        return Place::Bad;
+    }
+    if cells::left(pool, son) != 0 {
+        return Place::Fork;
+    }
+    if cells::right(pool, son) != 0 {
+        return Place::Fork;
+    }
+    Place::Leaf
+}
+
+// From a slot down whose own tests have passed, with so many levels below it.
+fn check_slot(pool: &[u32], levels: u32, slot: u32, at: Stripe) -> Checked
+    requires { ⌜ Fits (now pool) slot × (levels ≤ 32) × Low (stripeOf at) ⌝ }
+    ensures { λ r. ⌜ r ≡ fromSlot (now (pool .entry)) levels slot (stripeOf at) ⌝ }
+{
+    let p = cells::pair(pool, slot);
+    let left = cells::left(pool, slot);
+    let right = cells::right(pool, slot);
+    let Checked::Counted(a) = check_son(pool, levels, p, left, at.left()) else {
+        return Checked::Faulty;
+    };
+    let Checked::Counted(b) = check_son(pool, levels, p, right, at.right()) else {
+        return Checked::Faulty;
+    };
+    if again(pool, levels, left, right, at, p.x) {
+        return Checked::Faulty;
+    }
+    Checked::Counted(a + b + 1)
+}
+
+// From a son's place down, with so many levels left.
+fn check_son(pool: &[u32], levels: u32, p: Pair, son: u32, at: Stripe) -> Checked
+    requires { ⌜ (levels ≤ 32) × Low (stripeOf at) ⌝ }
+    ensures { λ r. ⌜ r ≡ fromLink (now (pool .entry)) levels p son (stripeOf at) ⌝ }
+{
+    let place = place_of(pool, levels, p, son, at);
+    match place {
+        Place::Empty => Checked::Counted(0),
+        Place::Leaf => Checked::Counted(1),
+        Place::Fork => check_slot(pool, levels - 1, son, at),
+        Place::Bad => Checked::Faulty,
+    }
+}
+
+// From the root down: it has no father.
+pub fn check_root(pool: &[u32]) -> Checked
+    requires { ⌜ Pool (now pool) ⌝ }
+    ensures { λ r. ⌜ r ≡ fromRoot (now (pool .entry)) ⌝ }
+{
+    let root = cells::root(pool);
+    if root == 0 {
+        return Checked::Counted(0);
+    }
+    if !slot_fine(pool, root, Stripe::root()) {
+        return Checked::Faulty;
+    }
+    check_slot(pool, Stripe::LEVELS, root, Stripe::root())
+}
