@@ -2,7 +2,7 @@
 use crate::call;
 use crate::call::Call;
 use crate::chance;
-use crate::slices;
+use crate::desk;
 use crate::step;
 use crate::tally;
 ghost use Prim.Native.Nat.{_<_};
@@ -12,74 +12,75 @@ const CHANGES: u32 = 48;
 
 // The cells of a remembered change.
 fn log_cell(i: u32) -> usize
-    ensures { λ r. ⌜ r < 192 ⌝ }
+    ensures { λ r. ⌜ r < 20000 ⌝ }
 {
-    if i < CHANGES { 4 * (i as usize) } else { 0 }
+    if i < CHANGES {
+        desk::LOG + 4 * (i as usize)
+    } else {
+        desk::LOG
+    }
 }
 
-fn remember(log: &mut [u32], i: u32, asked: Call) {
+fn remember(desk: &mut [u32], i: u32, asked: Call) {
     let at = log_cell(i);
-    slices::put(log, at, asked.kind);
-    slices::put(log, at + 1, asked.a);
-    slices::put(log, at + 2, asked.b);
-    slices::put(log, at + 3, asked.c);
+    desk::put(desk, at, asked.kind);
+    desk::put(desk, at + 1, asked.a);
+    desk::put(desk, at + 2, asked.b);
+    desk::put(desk, at + 3, asked.c);
 }
 
-fn remembered(log: &[u32], i: u32) -> Call {
+fn remembered(desk: &[u32], i: u32) -> Call {
     let at = log_cell(i);
     Call::new(
-        slices::at(log, at),
-        slices::at(log, at + 1),
-        slices::at(log, at + 2),
-        slices::at(log, at + 3),
+        desk::at(desk, at),
+        desk::at(desk, at + 1),
+        desk::at(desk, at + 2),
+        desk::at(desk, at + 3),
     )
 }
 
 // One change more, remembered if it is accepted; how many were.
-fn one_more(
-    cells: &mut [u32],
-    list: &mut [u32],
-    tally: &mut [u64],
-    log: &mut [u32],
-    accepted: u32,
-) -> u32 {
-    let kind = chance::change_kind(tally, true);
-    let asked = chance::call_of(tally, list, kind);
-    if step::change(cells, list, tally, 0, asked) {
-        remember(log, accepted, asked);
+fn one_more(desk: &mut [u32], len: usize, accepted: u32) -> u32 {
+    let kind = chance::change_kind(desk, true);
+    let asked = chance::call_of(desk, kind);
+    if step::change(desk, len, 0, asked) {
+        remember(desk, accepted, asked);
         return std::num::wrapping_add_u32(accepted, 1);
     }
     accepted
 }
 
 // A run of changes; how many were accepted.
-fn forth(cells: &mut [u32], list: &mut [u32], tally: &mut [u64], log: &mut [u32]) -> u32 {
+fn forth(desk: &mut [u32], len: usize) -> u32 {
     let mut accepted: u32 = 0;
     for _ in 0..CHANGES {
-        accepted = one_more(cells, list, tally, log, accepted);
+        accepted = one_more(desk, len, accepted);
     }
     accepted
 }
 
-// The remembered changes reversed, last first; each is to be accepted.
-fn back(cells: &mut [u32], list: &mut [u32], tally: &mut [u64], log: &[u32], accepted: u32) {
+// The remembered changes reversed, last first; whether each was accepted.
+fn back(desk: &mut [u32], len: usize, accepted: u32) -> bool {
     let mut left = accepted;
     while left != 0 {
         left -= 1;
-        let asked = call::reversed(remembered(log, left));
-        let is_done = step::change(cells, list, tally, 0, asked);
-        tally::expect(tally, asked, is_done);
-        tally::add(tally, tally::TAKEN_BACK);
+        let asked = call::reversed(remembered(desk, left));
+        if !step::change(desk, len, 0, asked) {
+            return false;
+        }
     }
+    true
 }
 
-pub fn run(cells: &mut [u32], list: &mut [u32], tally: &mut [u64]) {
-    let mut start = [0u32; 4096];
-    let mut log = [0u32; 192];
-    slices::keep(cells, &mut start, 0);
-    let accepted = forth(cells, list, tally, &mut log);
-    back(cells, list, tally, &log, accepted);
-    let run = Call::new(call::TAKING_BACK, accepted, 0, 0);
-    tally::expect(tally, run, slices::same(cells, &start, 0));
-    tally::add(tally, tally::RUNS);
+// Whether each accepted change was taken back, and every cell is as at the start.
+fn is_back(desk: &mut [u32], len: usize, accepted: u32) -> bool {
+    let is_done = back(desk, len, accepted);
+    is_done & desk::is_same(desk, len, desk::START)
+}
+
+pub fn run(desk: &mut [u32], len: usize) {
+    desk::keep(desk, len, desk::START);
+    let accepted = forth(desk, len);
+    let is_right = is_back(desk, len, accepted);
+    tally::take_back(desk, accepted, is_right);
 }

@@ -1,8 +1,7 @@
-// A call with its numbers, what it told, and what the plain list wants of it.
-use rule::Answer;
-use rule::Outcome;
+// A call with its numbers, and what the plain list wants of it.
+use rule::Five;
 
-// The kinds of call.
+// The kinds of call, in the order of their counts. A change that stores stands before the one that takes it back.
 pub const SET_UP: u32 = 0;
 
 pub const CHECK: u32 = 1;
@@ -85,15 +84,6 @@ impl Call {
     }
 }
 
-// The five numbers of an answer.
-pub struct Told {
-    pub code: u32,
-    pub x: u32,
-    pub y: u32,
-    pub count: u32,
-    pub visits: u32,
-}
-
 // What the plain list wants: four numbers, and the least and the most visits.
 pub struct Want {
     pub code: u32,
@@ -104,29 +94,21 @@ pub struct Want {
     pub most: u32,
 }
 
-pub fn numbers_of(answer: Answer) -> Told {
-    let visits = answer.visits;
-    let outcome = answer.outcome;
-    match outcome {
-        Outcome::Found(p) => five(DONE, p.x, p.y, 0, visits),
-        Outcome::Nothing => five(NOTHING, 0, 0, 0, visits),
-        Outcome::Listed { count, more } => {
-            if more {
-                return five(MORE, 0, 0, count, visits);
-            }
-            five(DONE, 0, 0, count, visits)
-        }
-        Outcome::Refused(code) => five(code, 0, 0, 0, visits),
-    }
+// What a call told, what is wanted, and whether it left the lent cells and bytes as it is to.
+pub struct Seen {
+    pub got: Five,
+    pub want: Want,
+    pub is_left: bool,
 }
 
-fn five(code: u32, x: u32, y: u32, count: u32, visits: u32) -> Told {
-    Told {
+// An answer with a code and no more.
+pub fn told(code: u32) -> Five {
+    Five {
         code,
-        x,
-        y,
-        count,
-        visits,
+        x: 0,
+        y: 0,
+        count: 0,
+        visits: 0,
     }
 }
 
@@ -142,32 +124,38 @@ pub fn bare(code: u32) -> Want {
     }
 }
 
-pub fn agrees(got: Told, want: Want) -> bool {
-    if got.code != want.code {
-        return false;
-    }
-    if got.x != want.x {
-        return false;
-    }
-    if got.y != want.y {
-        return false;
-    }
-    if got.count != want.count {
-        return false;
-    }
-    if got.visits < want.least {
-        return false;
-    }
-    got.visits <= want.most
+pub fn agrees(got: Five, want: Want) -> bool {
+    let same = (got.code == want.code)
+        & (got.x == want.x)
+        & (got.y == want.y)
+        & (got.count == want.count);
+    same & (want.least <= got.visits) & (got.visits <= want.most)
+}
+
+// Whether a call of this kind may change the pool.
+pub fn is_change(kind: u32) -> bool {
+    (kind == SET_UP) | (INSERT <= kind) & (kind <= CLOSE)
+}
+
+// Whether a change of this kind stores a pair.
+pub fn is_storing(kind: u32) -> bool {
+    (kind == INSERT) | (kind == OPEN)
 }
 
 // The call that takes a change back.
 pub fn reversed(call: Call) -> Call {
-    let kind = call.kind;
-    match kind {
-        INSERT => Call::new(DELETE, call.a, call.b, call.c),
-        DELETE => Call::new(INSERT, call.a, call.b, call.c),
-        OPEN => Call::new(CLOSE, call.a, call.b, call.c),
-        _ => Call::new(OPEN, call.a, call.b, call.c),
+    if is_storing(call.kind) {
+        return Call::new(
+            std::num::wrapping_add_u32(call.kind, 1),
+            call.a,
+            call.b,
+            call.c,
+        );
     }
+    Call::new(
+        std::num::wrapping_sub_u32(call.kind, 1),
+        call.a,
+        call.b,
+        call.c,
+    )
 }

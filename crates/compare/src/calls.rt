@@ -3,10 +3,11 @@ use crate::call;
 use crate::call::Call;
 use rule::Answer;
 
-// Insert, delete, open or close.
+// Set up, insert, delete, open or close.
 pub fn change(cells: &mut [u32], asked: Call) -> Answer {
     let kind = asked.kind;
     match kind {
+        call::SET_UP => pool::set_up(cells),
         call::INSERT => pool::insert(cells, asked.a, asked.b),
         call::DELETE => pool::delete(cells, asked.a, asked.b),
         call::OPEN => strips::open(cells, asked.a, asked.b, asked.c),
@@ -14,10 +15,11 @@ pub fn change(cells: &mut [u32], asked: Call) -> Answer {
     }
 }
 
-// A question for one pair or one strip.
+// The check, or a question for one pair or one strip.
 pub fn ask(cells: &[u32], asked: Call) -> Answer {
     let kind = asked.kind;
     match kind {
+        call::CHECK => pool::check(cells),
         call::SMALLEST_X => pool::smallest_x(cells, asked.a, asked.b, asked.c),
         call::LARGEST_X => pool::largest_x(cells, asked.a, asked.b, asked.c),
         call::SMALLEST_Y => pool::smallest_y(cells, asked.a, asked.b),

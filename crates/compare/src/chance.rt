@@ -1,34 +1,42 @@
 // Pseudo-random numbers, the same on every machine, and calls made of them.
 use crate::call;
 use crate::call::Call;
+use crate::desk;
 use crate::plain;
-use crate::slices;
-use crate::tally;
 
 // Multiply with carry: the lower half times a constant, plus the upper half.
-fn turned(seed: u64) -> u64 {
-    std::num::wrapping_add_u64(seed % 4294967296 * 4294957665, seed / 4294967296)
+fn turned(lower: u32, upper: u32) -> u64 {
+    std::num::wrapping_add_u64(lower as u64 * 4294957665, upper as u64)
 }
 
 fn lower_half(seed: u64) -> u32 {
     (seed % 4294967296) as u32
 }
 
-pub fn next(tally: &mut [u64]) -> u32 {
-    let seed = turned(tally::get(tally, tally::SEED));
-    tally::put(tally, tally::SEED, seed);
-    lower_half(seed)
+fn upper_half(seed: u64) -> u32 {
+    (seed / 4294967296) as u32
 }
 
-// A number below n; 0 where there is none.
-pub fn below(tally: &mut [u64], n: u32) -> u32 {
-    let d = next(tally);
-    if n == 0 { 0 } else { d % n }
+pub fn next(desk: &mut [u32]) -> u32 {
+    let seed = turned(desk::at(desk, desk::SEED), desk::at(desk, desk::SEED + 1));
+    let drawn = lower_half(seed);
+    desk::put(desk, desk::SEED, drawn);
+    desk::put(desk, desk::SEED + 1, upper_half(seed));
+    drawn
+}
+
+// What a drawn number is below n; 0 where there is none.
+fn rest(drawn: u32, n: u32) -> u32 {
+    if n == 0 { 0 } else { drawn % n }
+}
+
+pub fn below(desk: &mut [u32], n: u32) -> u32 {
+    rest(next(desk), n)
 }
 
 // True once in n times.
-pub fn once_in(tally: &mut [u64], n: u32) -> bool {
-    below(tally, n) == 0
+pub fn once_in(desk: &mut [u32], n: u32) -> bool {
+    below(desk, n) == 0
 }
 
 // 2 to the power k, at most 2^31.
@@ -63,139 +71,167 @@ fn hard(k: u32) -> u32 {
     }
 }
 
-// A row of the list.
-fn row(tally: &mut [u64], list: &[u32]) -> usize {
-    slices::wide(below(tally, plain::count(list)))
+// The row of the list that a drawn number stands for.
+fn row(desk: &[u32], drawn: u32) -> usize {
+    desk::wide(rest(drawn, plain::count(desk)))
 }
 
 // An x: from the hard places, a power of 2 or the number before it, a stored one or its neighbour, a small or a free one.
-fn key(tally: &mut [u64], list: &[u32]) -> u32 {
-    let d = below(tally, 16);
+fn key_by(desk: &[u32], d: u32, drawn: u32) -> u32 {
+    let p = power(drawn % 32);
+    let stored = plain::x_at(desk, row(desk, drawn));
     match d {
-        0 | 1 | 2 => hard(below(tally, 13)),
-        3 => power(below(tally, 32)),
-        4 => std::num::wrapping_sub_u32(power(below(tally, 32)), 1),
-        5 | 6 => plain::x_at(list, row(tally, list)),
-        7 => std::num::wrapping_add_u32(plain::x_at(list, row(tally, list)), 1),
-        8 => std::num::wrapping_sub_u32(plain::x_at(list, row(tally, list)), 1),
-        9 | 10 => below(tally, 32),
-        _ => next(tally),
+        0 | 1 | 2 => hard(drawn % 13),
+        3 => p,
+        4 => std::num::wrapping_sub_u32(p, 1),
+        5 | 6 => stored,
+        7 => std::num::wrapping_add_u32(stored, 1),
+        8 => std::num::wrapping_sub_u32(stored, 1),
+        9 | 10 => drawn % 32,
+        _ => drawn,
+    }
+}
+
+fn key(desk: &mut [u32]) -> u32 {
+    let d = below(desk, 16);
+    let drawn = next(desk);
+    key_by(desk, d, drawn)
+}
+
+fn height_by(desk: &[u32], d: u32, drawn: u32) -> u32 {
+    match d {
+        2 | 3 => drawn % 4,
+        4 => plain::y_at(desk, row(desk, drawn)),
+        5 => drawn % 65536,
+        _ => drawn,
     }
 }
 
 // A y: often one of four, at times a limit, a stored one or a free one.
-fn height(tally: &mut [u64], list: &[u32]) -> u32 {
-    let d = below(tally, 8);
-    match d {
-        0 => 0,
-        1 => 4294967295,
-        2 | 3 => below(tally, 4),
-        4 => plain::y_at(list, row(tally, list)),
-        5 => below(tally, 65536),
-        _ => next(tally),
+fn height(desk: &mut [u32]) -> u32 {
+    let d = below(desk, 8);
+    if d < 2 {
+        return d * 4294967295;
     }
+    let drawn = next(desk);
+    height_by(desk, d, drawn)
+}
+
+fn slot_by(desk: &[u32], d: u32, drawn: u32) -> u32 {
+    if d == 3 {
+        return drawn;
+    }
+    if d < 8 {
+        return drawn % 65536;
+    }
+    if d < 11 {
+        return plain::x_at(desk, row(desk, drawn)) / 65536;
+    }
+    drawn % 40
 }
 
 // A slot, or a strip's number: mostly a small one, at times a limit, seldom one over 65,535.
-fn slot(tally: &mut [u64], list: &[u32]) -> u32 {
-    let d = below(tally, 32);
-    match d {
-        0 => 0,
-        1 => 65535,
-        2 => 65536,
-        3 => next(tally),
-        4 | 5 | 6 | 7 => below(tally, 65536),
-        8 | 9 | 10 => plain::x_at(list, row(tally, list)) / 65536,
-        _ => below(tally, 40),
+fn slot(desk: &mut [u32]) -> u32 {
+    let d = below(desk, 32);
+    if d == 0 {
+        return 0;
     }
+    if d < 3 {
+        return 65534 + d;
+    }
+    let drawn = next(desk);
+    slot_by(desk, d, drawn)
 }
 
 // A call with two limits, in their order but for once in 16.
-fn ordered(tally: &mut [u64], kind: u32, a: u32, b: u32, c: u32) -> Call {
-    if once_in(tally, 16) {
+fn ordered(desk: &mut [u32], kind: u32, a: u32, b: u32, c: u32) -> Call {
+    let as_drawn = once_in(desk, 16);
+    if as_drawn | (a <= b) {
         return Call::new(kind, a, b, c);
     }
-    if b < a {
-        return Call::new(kind, b, a, c);
-    }
-    Call::new(kind, a, b, c)
+    Call::new(kind, b, a, c)
 }
 
-// A deletion: mostly of a stored pair, at times with another y.
-fn deletion(tally: &mut [u64], list: &[u32]) -> Call {
-    if once_in(tally, 8) {
-        let x = key(tally, list);
-        return Call::new(call::DELETE, x, height(tally, list), 0);
-    }
-    let i = row(tally, list);
-    if once_in(tally, 8) {
-        return Call::new(call::DELETE, plain::x_at(list, i), height(tally, list), 0);
-    }
-    Call::new(call::DELETE, plain::x_at(list, i), plain::y_at(list, i), 0)
+// A pair to insert, or to delete though it may not be stored.
+fn pair(desk: &mut [u32], kind: u32) -> Call {
+    let x = key(desk);
+    Call::new(kind, x, height(desk), 0)
 }
 
-// A strip to open.
-fn strip(tally: &mut [u64], list: &[u32]) -> Call {
-    let a = slot(tally, list);
-    let b = slot(tally, list);
-    let number = slot(tally, list);
-    ordered(tally, call::OPEN, a, b, number)
+// A strip to open, or to close though it may not be stored.
+fn strip(desk: &mut [u32], kind: u32) -> Call {
+    let a = slot(desk);
+    let b = slot(desk);
+    let number = slot(desk);
+    ordered(desk, kind, a, b, number)
 }
 
-// A closing: mostly of a stored pair, read as a strip, at times with another start.
-fn closing(tally: &mut [u64], list: &[u32]) -> Call {
-    if once_in(tally, 8) {
-        let s = strip(tally, list);
-        return Call::new(call::CLOSE, s.a, s.b, s.c);
+// A change with any numbers.
+fn free_change(desk: &mut [u32], kind: u32) -> Call {
+    if kind < call::OPEN {
+        return pair(desk, kind);
     }
-    let i = row(tally, list);
-    let x = plain::x_at(list, i);
-    if once_in(tally, 8) {
-        return Call::new(call::CLOSE, slot(tally, list), x / 65536, x % 65536);
+    strip(desk, kind)
+}
+
+// The y or start of a stored row, at times another one.
+fn y_for(desk: &mut [u32], kind: u32, i: usize) -> u32 {
+    if !once_in(desk, 8) {
+        return plain::y_at(desk, i);
     }
-    Call::new(call::CLOSE, plain::y_at(list, i), x / 65536, x % 65536)
+    if kind == call::DELETE {
+        return height(desk);
+    }
+    slot(desk)
+}
+
+// The deletion of a pair, or its closing as a strip.
+fn removing(kind: u32, x: u32, y: u32) -> Call {
+    if kind == call::DELETE {
+        return Call::new(kind, x, y, 0);
+    }
+    Call::new(kind, y, x / 65536, x % 65536)
+}
+
+// A deletion or a closing: mostly of a stored pair, at times with another y or start.
+fn removal(desk: &mut [u32], kind: u32) -> Call {
+    if once_in(desk, 8) {
+        return free_change(desk, kind);
+    }
+    let drawn = next(desk);
+    let i = row(desk, drawn);
+    let y = y_for(desk, kind, i);
+    removing(kind, plain::x_at(desk, i), y)
 }
 
 // A question between two x.
-fn range(tally: &mut [u64], list: &[u32], kind: u32) -> Call {
-    let a = key(tally, list);
-    let b = key(tally, list);
-    let c = height(tally, list);
-    ordered(tally, kind, a, b, c)
+fn range(desk: &mut [u32], kind: u32) -> Call {
+    let a = key(desk);
+    let b = key(desk);
+    let c = height(desk);
+    ordered(desk, kind, a, b, c)
 }
 
 // A question about slots.
-fn slots(tally: &mut [u64], list: &[u32], kind: u32) -> Call {
-    let a = slot(tally, list);
-    let b = slot(tally, list);
-    ordered(tally, kind, a, b, 0)
+fn slots(desk: &mut [u32], kind: u32) -> Call {
+    let a = slot(desk);
+    let b = slot(desk);
+    ordered(desk, kind, a, b, 0)
 }
 
 // A call of a kind.
-pub fn call_of(tally: &mut [u64], list: &[u32], kind: u32) -> Call {
+pub fn call_of(desk: &mut [u32], kind: u32) -> Call {
     match kind {
         call::SET_UP | call::CHECK | call::SAVE => Call::new(kind, 0, 0, 0),
-        call::INSERT => {
-            let x = key(tally, list);
-            Call::new(kind, x, height(tally, list), 0)
-        }
-        call::DELETE => deletion(tally, list),
-        call::OPEN => strip(tally, list),
-        call::CLOSE => closing(tally, list),
-        call::SMALLEST_X | call::LARGEST_X | call::SMALLEST_Y | call::LISTING => range(
-            tally,
-            list,
-            kind,
-        ),
-        _ => slots(tally, list, kind),
+        call::INSERT | call::OPEN => free_change(desk, kind),
+        call::DELETE | call::CLOSE => removal(desk, kind),
+        call::SMALLEST_X | call::LARGEST_X | call::SMALLEST_Y | call::LISTING => range(desk, kind),
+        _ => slots(desk, kind),
     }
 }
 
-// A kind of change; where the pool is to grow, mostly one that stores.
-pub fn change_kind(tally: &mut [u64], is_growing: bool) -> u32 {
-    let d = below(tally, 8);
+fn change_kind_by(d: u32, is_growing: bool) -> u32 {
     match d {
-        0 => call::INSERT,
         1 => call::OPEN,
         2 | 3 => call::DELETE,
         4 => call::CLOSE,
@@ -209,23 +245,51 @@ pub fn change_kind(tally: &mut [u64], is_growing: bool) -> u32 {
     }
 }
 
-// A kind of call, but for set up; half of them change the pool.
-pub fn kind(tally: &mut [u64], is_growing: bool) -> u32 {
-    if once_in(tally, 2) {
-        return change_kind(tally, is_growing);
+// A kind of change; where the pool is to grow, mostly one that stores.
+pub fn change_kind(desk: &mut [u32], is_growing: bool) -> u32 {
+    change_kind_by(below(desk, 8), is_growing)
+}
+
+fn kind_by(drawn: u32, is_change: bool, is_growing: bool) -> u32 {
+    if is_change {
+        return change_kind_by(drawn % 8, is_growing);
     }
-    std::num::wrapping_add_u32(call::CHECK, below(tally, 16))
+    std::num::wrapping_add_u32(call::CHECK, drawn % 16)
+}
+
+// A kind of call, but for set up; half of them change the pool.
+pub fn kind(desk: &mut [u32], is_growing: bool) -> u32 {
+    let is_change = once_in(desk, 2);
+    kind_by(next(desk), is_change, is_growing)
+}
+
+// A kind of change that stores.
+pub fn storing_kind(desk: &mut [u32]) -> u32 {
+    if once_in(desk, 2) {
+        call::INSERT
+    } else {
+        call::OPEN
+    }
 }
 
 // The cells lent for a listing: none, one, few, an odd number, or enough for all.
-pub fn room(tally: &mut [u64], most: u32) -> u32 {
-    let d = below(tally, 8);
-    match d {
-        0 => 0,
-        1 => 1,
-        2 => 2,
-        3 | 4 => below(tally, 12),
-        5 => below(tally, most),
-        _ => most,
+pub fn room(desk: &mut [u32]) -> u32 {
+    let d = below(desk, 8);
+    if d < 3 {
+        return d;
     }
+    if 5 < d {
+        return 2047;
+    }
+    let drawn = next(desk);
+    if d < 5 { drawn % 12 } else { drawn % 2047 }
+}
+
+// The bytes lent for a book of this size: just enough, one too few, any number, or all.
+pub fn bytes(desk: &mut [u32], size: u32) -> u32 {
+    let d = below(desk, 4);
+    if d < 2 {
+        return std::num::wrapping_sub_u32(size, d);
+    }
+    if d == 2 { below(desk, 8200) } else { 8200 }
 }

@@ -1,18 +1,27 @@
 // The stored book, held to the plain list.
 use crate::call;
-use crate::call::Call;
-use crate::call::Told;
-use crate::chance;
+use crate::call::Seen;
+use crate::desk;
 use crate::plain;
-use crate::slices;
-use crate::tally;
+use rule::Five;
 ghost use Prim.Native.Nat.{_<_};
 
 // What the bytes hold before the book is written.
 const UNWRITTEN: u8 = 238;
 
-// The bytes that are lent at most: those of the largest compared pool's book, and a few over.
-const MOST_BYTES: u32 = 8200;
+fn byte_at(bytes: &[u8], i: usize) -> u8 {
+    if i < bytes.len() { bytes[i] } else { 0 }
+}
+
+// Whether nothing is written from an index on.
+fn bytes_from(bytes: &[u8], from: usize) -> bool {
+    for i in from..bytes.len() {
+        if byte_at(bytes, i) != UNWRITTEN {
+            return false;
+        }
+    }
+    true
+}
 
 fn word_of(a: u8, b: u8, c: u8, d: u8) -> u32 {
     a as u32 * 16777216 + b as u32 * 65536 + c as u32 * 256 + d as u32
@@ -22,27 +31,27 @@ fn word_of(a: u8, b: u8, c: u8, d: u8) -> u32 {
 fn word(bytes: &[u8], at: u32) -> u32 {
     let i = at as usize;
     word_of(
-        slices::byte_at(bytes, i),
-        slices::byte_at(bytes, i + 1),
-        slices::byte_at(bytes, i + 2),
-        slices::byte_at(bytes, i + 3),
+        byte_at(bytes, i),
+        byte_at(bytes, i + 1),
+        byte_at(bytes, i + 2),
+        byte_at(bytes, i + 3),
     )
 }
 
 // The bytes of a book with so many pairs, and so the place of a pair.
-fn bytes_for(pairs: u32) -> u32
+pub fn bytes_for(pairs: u32) -> u32
     ensures { λ r. ⌜ r < 40000 ⌝ }
 {
     if pairs < 4096 { 5 + 8 * pairs } else { 5 }
 }
 
-// Whether the pairs of a book are in the list, by ascending x; as many as there are, so each once.
-fn is_ascending(bytes: &[u8], list: &[u32], pairs: u32) -> bool {
+// Whether the pairs of a book are in the desk, by ascending x; as many as there are, so each once.
+fn is_ascending(bytes: &[u8], desk: &[u32], pairs: u32) -> bool {
     let mut last: u32 = 0;
     for i in 0..pairs {
         let at = bytes_for(i);
         let x = word(bytes, at);
-        if !plain::holds(list, x, word(bytes, at + 4)) {
+        if !plain::holds(desk, x, word(bytes, at + 4)) {
             return false;
         }
         if i != 0 && x <= last {
@@ -53,18 +62,18 @@ fn is_ascending(bytes: &[u8], list: &[u32], pairs: u32) -> bool {
     true
 }
 
-fn is_book(bytes: &[u8], list: &[u32], pairs: u32) -> bool {
+fn is_book(bytes: &[u8], desk: &[u32], pairs: u32) -> bool {
     let size = bytes_for(pairs);
     if word(bytes, 0) != std::num::wrapping_sub_u32(size, 4) {
         return false;
     }
-    if slices::byte_at(bytes, 4) != 1 {
+    if byte_at(bytes, 4) != 1 {
         return false;
     }
-    if !slices::bytes_from(bytes, slices::wide(size), UNWRITTEN) {
+    if !bytes_from(bytes, desk::wide(size)) {
         return false;
     }
-    is_ascending(bytes, list, pairs)
+    is_ascending(bytes, desk, pairs)
 }
 
 fn want(health: u32, size: u32, lent: u32) -> u32 {
@@ -77,43 +86,29 @@ fn want(health: u32, size: u32, lent: u32) -> u32 {
     call::DONE
 }
 
-// The bytes to lend for a book of this size: just enough, one too few, any number, or all.
-fn lent_for(tally: &mut [u64], size: u32) -> u32 {
-    let d = chance::below(tally, 4);
-    match d {
-        0 => size,
-        1 => std::num::wrapping_sub_u32(size, 1),
-        2 => chance::below(tally, MOST_BYTES),
-        _ => MOST_BYTES,
-    }
-}
-
-fn told_by(cells: &[u32], bytes: &mut [u8], lent: usize) -> Told {
+fn told_by(cells: &[u32], bytes: &mut [u8], lent: usize) -> Five {
     if lent <= bytes.len() {
-        return call::numbers_of(book::save(cells, &mut bytes[0..lent]));
+        return book::save(cells, &mut bytes[0..lent]).numbers();
     }
-    call::numbers_of(book::save(cells, bytes))
+    book::save(cells, bytes).numbers()
 }
 
 // Whether every byte is as a save with this code is to leave it.
-fn is_left(bytes: &[u8], list: &[u32], code: u32) -> bool {
+fn is_left(bytes: &[u8], desk: &[u32], code: u32) -> bool {
     if code == 0 {
-        return is_book(bytes, list, plain::count(list));
+        return is_book(bytes, desk, plain::count(desk));
     }
-    slices::bytes_from(bytes, 0, UNWRITTEN)
+    bytes_from(bytes, 0)
 }
 
 // Writes the book into so many bytes.
-fn save_into(cells: &[u32], list: &[u32], tally: &mut [u64], health: u32, lent: u32) {
+pub fn save(desk: &[u32], len: usize, health: u32, lent: u32) -> Seen {
     let mut bytes = [UNWRITTEN; 8200];
-    let asked = Call::new(call::SAVE, lent, 0, 0);
-    let code = want(health, bytes_for(plain::count(list)), lent);
-    let got = told_by(cells, &mut bytes, slices::wide(lent));
-    tally::compare(tally, asked, got, call::bare(code));
-    tally::expect(tally, asked, is_left(&bytes, list, code));
-}
-
-pub fn save(cells: &[u32], list: &[u32], tally: &mut [u64], health: u32) {
-    let lent = lent_for(tally, bytes_for(plain::count(list)));
-    save_into(cells, list, tally, health, lent);
+    let code = want(health, bytes_for(plain::count(desk)), lent);
+    let got = told_by(desk::pool(desk, len), &mut bytes, desk::wide(lent));
+    Seen {
+        got,
+        want: call::bare(code),
+        is_left: is_left(&bytes, desk, code),
+    }
 }

@@ -2,20 +2,21 @@
 // where a cell was damaged.
 use crate::call;
 use crate::call::Call;
-use crate::call::Told;
+use crate::call::Seen;
 use crate::calls;
 use crate::chance;
+use crate::desk;
 use crate::plain;
 use crate::saved;
-use crate::slices;
 use crate::tally;
+use rule::Five;
 
 // What the cells for a listing hold before it.
 const UNWRITTEN: u32 = 2779096485;
 
 // The slots of a pool.
-fn slots_of(cells: &[u32]) -> u32 {
-    let n = cells.len() / 4;
+pub fn slots_of(len: usize) -> u32 {
+    let n = len / 4;
     if n == 0 {
         return 0;
     }
@@ -24,7 +25,7 @@ fn slots_of(cells: &[u32]) -> u32 {
 
 // What a fresh pool of n slots holds in a cell.
 fn fresh(i: usize, n: usize) -> u32 {
-    if i == 0 || i == 2 {
+    if (i == 0) | (i == 2) {
         return 1;
     }
     if i < 4 {
@@ -47,149 +48,146 @@ fn next_of(slot: usize, n: usize) -> u32 {
     }
 }
 
-fn is_fresh(cells: &[u32]) -> bool {
-    let n = slices::wide(slots_of(cells));
-    let mut i: usize = 0;
-    while i < cells.len() {
-        if slices::at(cells, i) != fresh(i, n) {
+fn is_fresh(desk: &[u32], len: usize) -> bool {
+    let n = desk::wide(slots_of(len));
+    for i in 0..len {
+        if desk::at(desk, i) != fresh(i, n) {
             return false;
         }
-        i += 1;
     }
     true
 }
 
-// Whether every cell is as a set up with this code is to leave it.
-fn is_set_up(cells: &[u32], list: &[u32], code: u32) -> bool {
-    if code == 0 {
-        return is_fresh(cells);
+// Whether every cell is as it was if a change is refused; else whether a set up left the fresh pool, and another change the count.
+fn is_changed(desk: &[u32], len: usize, kind: u32, code: u32) -> bool {
+    if code != 0 {
+        return desk::is_same(desk, len, desk::KEPT);
     }
-    slices::same(cells, list, plain::KEPT)
-}
-
-// Set up, whatever the cells hold.
-pub fn set_up(cells: &mut [u32], list: &mut [u32], tally: &mut [u64], health: u32) {
-    slices::keep(cells, list, plain::KEPT);
-    let asked = Call::new(call::SET_UP, 0, 0, 0);
-    let got = call::numbers_of(pool::set_up(cells));
-    plain::set_up(list, health);
-    tally::compare(tally, asked, got, call::bare(health));
-    tally::expect(tally, asked, is_set_up(cells, list, health));
-}
-
-pub fn check(cells: &[u32], tally: &mut [u64], health: u32) {
-    let got = call::numbers_of(pool::check(cells));
-    tally::compare(
-        tally,
-        Call::new(call::CHECK, 0, 0, 0),
-        got,
-        call::bare(health),
-    );
-}
-
-// Whether the count is right after a change that is done, and every cell as it was after another one.
-fn is_changed(cells: &[u32], list: &[u32], code: u32) -> bool {
-    if code == 0 {
-        return slices::at(cells, 3) == plain::count(list);
+    if kind == call::SET_UP {
+        return is_fresh(desk, len);
     }
-    slices::same(cells, list, plain::KEPT)
+    desk::at(desk, 3) == plain::count(desk)
+}
+
+// What a change tells; no code at all where the desk has no such pool.
+fn changed(desk: &mut [u32], len: usize, asked: Call) -> Five {
+    if len <= desk.len() {
+        return calls::change(&mut desk[0..len], asked).numbers();
+    }
+    call::told(call::CODES)
 }
 
 // A change; says whether it was done.
-pub fn change(
-    cells: &mut [u32],
-    list: &mut [u32],
-    tally: &mut [u64],
-    health: u32,
-    asked: Call,
-) -> bool {
-    slices::keep(cells, list, plain::KEPT);
-    let got = call::numbers_of(calls::change(cells, asked));
-    let code = plain::change(list, asked, health, slots_of(cells));
-    tally::compare(tally, asked, got, call::bare(code));
-    tally::expect(tally, asked, is_changed(cells, list, code));
+pub fn change(desk: &mut [u32], len: usize, health: u32, asked: Call) -> bool {
+    desk::keep(desk, len, desk::KEPT);
+    let got = changed(desk, len, asked);
+    let code = plain::change(desk, asked, health, slots_of(len));
+    let is_left = is_changed(desk, len, asked.kind, code);
+    tally::compare(desk, asked, got, call::bare(code), is_left);
     code == 0
 }
 
-fn question(cells: &[u32], list: &[u32], tally: &mut [u64], health: u32, asked: Call) {
-    let got = call::numbers_of(calls::ask(cells, asked));
-    tally::compare(tally, asked, got, plain::answer(list, asked, health));
+fn question(desk: &[u32], len: usize, health: u32, asked: Call) -> Seen {
+    Seen {
+        got: calls::ask(desk::pool(desk, len), asked).numbers(),
+        want: plain::answer(desk, asked, health),
+        is_left: true,
+    }
 }
 
-// Whether a shown pair is in the list, matches and was not shown before.
-fn is_right(list: &mut [u32], asked: Call, x: u32, y: u32) -> bool {
-    if !plain::holds(list, x, y) {
-        return false;
-    }
-    if !plain::matches(asked, x, y) {
-        return false;
-    }
-    plain::first_shown(list, plain::find(list, x))
+// The cell of a shown pair's x.
+fn shown_at(i: usize) -> usize {
+    std::num::wrapping_add_usize(i, i)
 }
 
-// Whether the first pairs in a listing's cells are each right.
-fn are_right(list: &mut [u32], asked: Call, out: &[u32], pairs: u32) -> bool {
-    plain::begin_listing(list);
-    let mut at: usize = 0;
-    for _ in 0..pairs {
-        let x = slices::at(out, at);
-        let y = slices::at(out, std::num::wrapping_add_usize(at, 1));
-        if !is_right(list, asked, x, y) {
+// Whether none of the first pairs shown has this x.
+fn is_new(out: &[u32], pairs: usize, x: u32) -> bool {
+    for i in 0..pairs {
+        if desk::at(out, shown_at(i)) == x {
             return false;
         }
-        at = std::num::wrapping_add_usize(at, 2);
     }
     true
 }
 
-// A listing: the shown pairs, and nothing written beyond them.
-fn shown(list: &mut [u32], tally: &mut [u64], asked: Call, out: &[u32], pairs: u32) {
-    tally::expect(tally, asked, are_right(list, asked, out, pairs));
-    let written = slices::wide(pairs);
-    tally::expect(
-        tally,
-        asked,
-        slices::all_from(
-            out,
-            std::num::wrapping_add_usize(written, written),
-            UNWRITTEN,
-        ),
-    );
+// Whether a shown pair is in the list, matches and was not shown before.
+fn is_right(desk: &[u32], out: &[u32], asked: Call, i: usize) -> bool {
+    let x = desk::at(out, shown_at(i));
+    let y = desk::at(out, std::num::wrapping_add_usize(shown_at(i), 1));
+    plain::holds(desk, x, y) & plain::matches(asked, x, y) & is_new(out, i, x)
 }
 
-fn listed(cells: &[u32], out: &mut [u32], asked: Call, room: usize) -> Told {
-    if room <= out.len() {
-        return call::numbers_of(calls::list(cells, &mut out[0..room], asked));
+// Whether the first pairs in a listing's cells are each right.
+fn are_right(desk: &[u32], out: &[u32], asked: Call, pairs: usize) -> bool {
+    for i in 0..pairs {
+        if !is_right(desk, out, asked, i) {
+            return false;
+        }
     }
-    call::numbers_of(calls::list(cells, out, asked))
+    true
+}
+
+// Whether nothing is written from an index on.
+fn unwritten_from(out: &[u32], from: usize) -> bool {
+    for i in from..out.len() {
+        if desk::at(out, i) != UNWRITTEN {
+            return false;
+        }
+    }
+    true
+}
+
+fn listed(cells: &[u32], out: &mut [u32], asked: Call, room: usize) -> Five {
+    if room <= out.len() {
+        return calls::list(cells, &mut out[0..room], asked).numbers();
+    }
+    calls::list(cells, out, asked).numbers()
+}
+
+fn is_listed(desk: &[u32], out: &[u32], asked: Call, pairs: usize) -> bool {
+    are_right(desk, out, asked, pairs) & unwritten_from(out, shown_at(pairs))
 }
 
 // A listing into a part of cells that have room for all the pairs of the largest compared pool, and one cell over.
-fn listing(cells: &[u32], list: &mut [u32], tally: &mut [u64], health: u32, asked: Call) {
+fn listing(desk: &[u32], len: usize, health: u32, asked: Call, room: u32) -> Seen {
     let mut out = [UNWRITTEN; 2047];
-    let lent = chance::room(tally, 2047);
-    let got = listed(cells, &mut out, asked, slices::wide(lent));
-    let want = plain::listing(list, asked, health, lent / 2);
-    tally::compare(tally, asked, got, want);
-    shown(list, tally, asked, &out, want.count);
+    let got = listed(desk::pool(desk, len), &mut out, asked, desk::wide(room));
+    let want = plain::listing(desk, asked, health, room / 2);
+    let is_left = is_listed(desk, &out, asked, desk::wide(want.count));
+    Seen { got, want, is_left }
 }
 
-// A call of any kind but set up.
-pub fn any(cells: &mut [u32], list: &mut [u32], tally: &mut [u64], health: u32, asked: Call) {
-    let kind = asked.kind;
-    match kind {
-        call::CHECK => check(cells, tally, health),
-        call::SAVE => saved::save(cells, list, tally, health),
-        call::INSERT | call::DELETE | call::OPEN | call::CLOSE => {
-            change(cells, list, tally, health, asked);
-        }
-        call::LISTING | call::LIST_COVERS | call::LIST_MEETS | call::LIST_CONTAINS => listing(
-            cells,
-            list,
-            tally,
-            health,
-            asked,
-        ),
-        _ => question(cells, list, tally, health, asked),
+// The cells lent for a listing, or the bytes for a book.
+fn room_for(desk: &mut [u32], kind: u32) -> u32 {
+    if kind == call::SAVE {
+        let size = saved::bytes_for(plain::count(desk));
+        return chance::bytes(desk, size);
     }
+    if call::LISTING <= kind {
+        return chance::room(desk);
+    }
+    0
+}
+
+// A call that leaves the pool as it is.
+fn looked(desk: &[u32], len: usize, health: u32, asked: Call, room: u32) -> Seen {
+    if asked.kind == call::SAVE {
+        return saved::save(desk, len, health, room);
+    }
+    if call::LISTING <= asked.kind {
+        return listing(desk, len, health, asked, room);
+    }
+    question(desk, len, health, asked)
+}
+
+// A call of a kind, with drawn numbers.
+pub fn any(desk: &mut [u32], len: usize, health: u32, kind: u32) {
+    let asked = chance::call_of(desk, kind);
+    if call::is_change(kind) {
+        change(desk, len, health, asked);
+        return;
+    }
+    let room = room_for(desk, kind);
+    let seen = looked(desk, len, health, asked, room);
+    tally::compare(desk, asked, seen.got, seen.want, seen.is_left);
 }

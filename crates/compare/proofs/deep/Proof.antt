@@ -1,4 +1,4 @@
--- `compare::deep` is safe and ends: the slices keep their lengths, and the measure is the powers that are left.
+-- `compare::deep` is safe and ends: the desk keeps its length, and the measure is the pairs that are left.
 use borrow.Author.Needs.{needs}
 use lib.ListN.{length}
 use Prim.Native.Nat.{_-_}
@@ -7,10 +7,10 @@ use Rattle.compare.proofs.deep.Statement.{statement}
 use Rattle.compare.proofs.deep.Tie as tie
 
 abbrev Inv-loop : tie.InvT-loop
-Inv-loop cells₀ list₀ tally₀ from k₀ cells list tally k = (length cells ≡ length cells₀) × ((length list ≡ length list₀) × (length tally ≡ length tally₀))
+Inv-loop desk₀ len from k₀ desk k = length desk ≡ length desk₀
 
 abbrev μ-loop : tie.MeasureT-loop
-μ-loop cells₀ list₀ tally₀ from k₀ cells list tally k = 32 - k
+μ-loop desk₀ len from k₀ desk k = 33 - k
 
 pub deep-spec : {M : Type 1} → statement M
 deep-spec =
@@ -21,14 +21,7 @@ deep-spec =
     (λ c. search needs)
     (λ c κs. search needs)
     (λ c κs. search needs)
-    (λ c κs. search needs)
-    (λ c κs. search needs)
-    (λ c κs. search needs)
     (λ c. search needs)
-    (λ c. search needs)
-    (λ c. search needs)
-    (λ c κs. search needs)
-    (λ c κs. search needs)
     (λ c. search needs)
     (λ c. search needs)
     (λ c. search needs)

@@ -1,15 +1,16 @@
--- `compare::empty` is safe and ends: the slices keep their lengths, and the measure is the turns that are left.
+-- `compare::empty` is safe and ends: the desk keeps its length, and the measure is the turns that are left.
 use borrow.Author.Needs.{needs}
 use lib.ListN.{length}
+use Prim.Native.Nat.{_-_}
 use mathlib.Core.Path.{_≡_}
 use Rattle.compare.proofs.empty.Statement.{statement}
 use Rattle.compare.proofs.empty.Tie as tie
 
 abbrev Inv-loop : tie.InvT-loop
-Inv-loop cells₀ list₀ tally₀ turns₀ cells list tally turns = (length cells ≡ length cells₀) × ((length list ≡ length list₀) × (length tally ≡ length tally₀))
+Inv-loop desk₀ len counter₀ desk counter = length desk ≡ length desk₀
 
 abbrev μ-loop : tie.MeasureT-loop
-μ-loop cells₀ list₀ tally₀ turns₀ cells list tally turns = turns
+μ-loop desk₀ len counter₀ desk counter = 8192 - counter
 
 pub empty-spec : {M : Type 1} → statement M
 empty-spec =
@@ -20,19 +21,10 @@ empty-spec =
     (λ c. search needs)
     (λ c κs. search needs)
     (λ c. search needs)
-    (λ c κs. search needs)
-    (λ c κs. search needs)
-    (λ c κs. search needs)
-    (λ c κs. search needs)
     (λ c. search needs)
     (λ c. search needs)
     (λ c κs. search needs)
     (λ c κs. search needs)
-    (λ c. search needs)
-    (λ c. search needs)
-    (λ c. search needs)
-    (λ c. search needs)
-    (λ c. search needs)
-    (λ c. search needs)
+    (λ c κs. search needs)
     (λ c. search needs)
     (λ c. search needs))

@@ -1,4 +1,4 @@
--- `compare::litter` is safe and ends: the slices keep their lengths, and the measure is the cells that are left.
+-- `compare::litter` is safe and ends: the desk keeps its length, and the measure is the cells that are left.
 use borrow.Author.Needs.{needs}
 use lib.ListN.{length}
 use Prim.Native.Nat.{_-_}
@@ -7,10 +7,10 @@ use Rattle.compare.proofs.litter.Statement.{statement}
 use Rattle.compare.proofs.litter.Tie as tie
 
 abbrev Inv-loop : tie.InvT-loop
-Inv-loop cells₀ tally₀ i₀ cells tally i = (length cells ≡ length cells₀) × (length tally ≡ length tally₀)
+Inv-loop desk₀ len i₀ desk i = length desk ≡ length desk₀
 
 abbrev μ-loop : tie.MeasureT-loop
-μ-loop cells₀ tally₀ i₀ cells tally i = length cells - i
+μ-loop desk₀ len i₀ desk i = len - i
 
 pub litter-spec : {M : Type 1} → statement M
 litter-spec =
@@ -24,6 +24,6 @@ litter-spec =
     (λ c. search needs)
     (λ c. search needs)
     (λ c. search needs)
-    (λ c. search needs)
+    (λ c κs. search needs)
     (λ c. search needs)
     (λ c. search needs))

@@ -1,4 +1,4 @@
--- `compare::mixed` is safe and ends: the slices keep their lengths, and the measure is the turns that are left.
+-- `compare::mixed` is safe and ends: the desk keeps its length, and the measure is the turns that are left.
 use borrow.Author.Needs.{needs}
 use lib.ListN.{length}
 use Prim.Native.Nat.{_-_}
@@ -7,10 +7,10 @@ use Rattle.compare.proofs.mixed.Statement.{statement}
 use Rattle.compare.proofs.mixed.Tie as tie
 
 abbrev Inv-loop : tie.InvT-loop
-Inv-loop cells₀ list₀ tally₀ turns i₀ cells list tally i = (length cells ≡ length cells₀) × ((length list ≡ length list₀) × (length tally ≡ length tally₀))
+Inv-loop desk₀ len turns i₀ desk i = length desk ≡ length desk₀
 
 abbrev μ-loop : tie.MeasureT-loop
-μ-loop cells₀ list₀ tally₀ turns i₀ cells list tally i = turns - i
+μ-loop desk₀ len turns i₀ desk i = turns - i
 
 pub mixed-spec : {M : Type 1} → statement M
 mixed-spec =
@@ -21,9 +21,6 @@ mixed-spec =
     (λ c. search needs)
     (λ c κs. search needs)
     (λ c κs. search needs)
-    (λ c κs. search needs)
-    (λ c. search needs)
-    (λ c. search needs)
     (λ c. search needs)
     (λ c. search needs)
     (λ c. search needs)

@@ -1,4 +1,4 @@
--- `compare::pools` is safe and ends: the slices keep their lengths, and the measure is the pools that are left.
+-- `compare::pools` is safe and ends: the desk keeps its length, and the measure is the phases that are left.
 use borrow.Author.Needs.{needs}
 use lib.ListN.{length}
 use Prim.Native.Nat.{_-_}
@@ -7,10 +7,10 @@ use Rattle.compare.proofs.pools.Statement.{statement}
 use Rattle.compare.proofs.pools.Tie as tie
 
 abbrev Inv-loop : tie.InvT-loop
-Inv-loop cells₀ list₀ tally₀ k₀ cells list tally k = (length cells ≡ length cells₀) × ((length list ≡ length list₀) × (length tally ≡ length tally₀))
+Inv-loop desk₀ i₀ desk i = length desk ≡ length desk₀
 
 abbrev μ-loop : tie.MeasureT-loop
-μ-loop cells₀ list₀ tally₀ k₀ cells list tally k = 8 - k
+μ-loop desk₀ i₀ desk i = 96 - i
 
 pub pools-spec : {M : Type 1} → statement M
 pools-spec =
@@ -20,10 +20,11 @@ pools-spec =
     μ-loop
     (λ c. search needs)
     (λ c κs. search needs)
-    (λ c κs. search needs)
-    (λ c κs. search needs)
     (λ c. search needs)
     (λ c. search needs)
+    (λ c. search needs)
+    (λ c κs. search needs)
+    (λ c κs. search needs)
     (λ c. search needs)
     (λ c. search needs)
     (λ c. search needs)

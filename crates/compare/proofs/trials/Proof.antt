@@ -1,4 +1,4 @@
--- `compare::trials` is safe and ends: the slices keep their lengths, and the measure is the turns that are left.
+-- `compare::trials` is safe and ends: the desk keeps its length, and the measure is the turns that are left.
 use borrow.Author.Needs.{needs}
 use lib.ListN.{length}
 use Prim.Native.Nat.{_-_}
@@ -7,10 +7,10 @@ use Rattle.compare.proofs.trials.Statement.{statement}
 use Rattle.compare.proofs.trials.Tie as tie
 
 abbrev Inv-loop : tie.InvT-loop
-Inv-loop cells₀ list₀ tally₀ slots turns counter₀ cells list tally counter = (length cells ≡ length cells₀) × ((length list ≡ length list₀) × (length tally ≡ length tally₀))
+Inv-loop desk₀ len turns counter₀ desk counter = length desk ≡ length desk₀
 
 abbrev μ-loop : tie.MeasureT-loop
-μ-loop cells₀ list₀ tally₀ slots turns counter₀ cells list tally counter = turns - counter
+μ-loop desk₀ len turns counter₀ desk counter = turns - counter
 
 pub trials-spec : {M : Type 1} → statement M
 trials-spec =
@@ -22,8 +22,6 @@ trials-spec =
     (λ c κs. search needs)
     (λ c κs. search needs)
     (λ c κs. search needs)
-    (λ c. search needs)
-    (λ c. search needs)
     (λ c. search needs)
     (λ c. search needs)
     (λ c. search needs)

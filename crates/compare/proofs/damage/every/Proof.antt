@@ -1,4 +1,4 @@
--- `compare::damage::every` is safe and ends: the slices keep their lengths, and the measure is the kinds that are left.
+-- `compare::damage::every` is safe and ends: the desk keeps its length, and the measure is the kinds that are left.
 use borrow.Author.Needs.{needs}
 use lib.ListN.{length}
 use Prim.Native.Nat.{_-_}
@@ -7,10 +7,10 @@ use Rattle.compare.proofs.damage.every.Statement.{statement}
 use Rattle.compare.proofs.damage.every.Tie as tie
 
 abbrev Inv-loop : tie.InvT-loop
-Inv-loop cells₀ list₀ tally₀ health kind₀ cells list tally kind = (length cells ≡ length cells₀) × ((length list ≡ length list₀) × (length tally ≡ length tally₀))
+Inv-loop desk₀ len health kind₀ desk kind = length desk ≡ length desk₀
 
 abbrev μ-loop : tie.MeasureT-loop
-μ-loop cells₀ list₀ tally₀ health kind₀ cells list tally kind = 17 - kind
+μ-loop desk₀ len health kind₀ desk kind = 17 - kind
 
 pub every-spec : {M : Type 1} → statement M
 every-spec =
@@ -20,9 +20,6 @@ every-spec =
     μ-loop
     (λ c. search needs)
     (λ c κs. search needs)
-    (λ c κs. search needs)
-    (λ c. search needs)
-    (λ c. search needs)
     (λ c. search needs)
     (λ c. search needs)
     (λ c. search needs)

@@ -5,10 +5,10 @@ use Rattle.compare.proofs.plain.best_of.Statement.{statement}
 use Rattle.compare.proofs.plain.best_of.Tie as tie
 
 abbrev Inv-loop : tie.InvT-loop
-Inv-loop list asked best₀ rows i₀ best i = Unit {0}
+Inv-loop desk asked best₀ rows i₀ best i = Unit {0}
 
 abbrev μ-loop : tie.MeasureT-loop
-μ-loop list asked best₀ rows i₀ best i = rows - i
+μ-loop desk asked best₀ rows i₀ best i = rows - i
 
 pub best-of-spec : {M : Type 1} → statement M
 best-of-spec =

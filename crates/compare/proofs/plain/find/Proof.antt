@@ -5,10 +5,10 @@ use Rattle.compare.proofs.plain.find.Statement.{statement}
 use Rattle.compare.proofs.plain.find.Tie as tie
 
 abbrev Inv-loop : tie.InvT-loop
-Inv-loop list x rows i₀ i = Unit {0}
+Inv-loop desk x rows i₀ i = Unit {0}
 
 abbrev μ-loop : tie.MeasureT-loop
-μ-loop list x rows i₀ i = rows - i
+μ-loop desk x rows i₀ i = rows - i
 
 pub find-spec : {M : Type 1} → statement M
 find-spec =

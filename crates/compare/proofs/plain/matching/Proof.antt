@@ -5,10 +5,10 @@ use Rattle.compare.proofs.plain.matching.Statement.{statement}
 use Rattle.compare.proofs.plain.matching.Tie as tie
 
 abbrev Inv-loop : tie.InvT-loop
-Inv-loop list asked n₀ rows i₀ n i = Unit {0}
+Inv-loop desk asked n₀ rows i₀ n i = Unit {0}
 
 abbrev μ-loop : tie.MeasureT-loop
-μ-loop list asked n₀ rows i₀ n i = rows - i
+μ-loop desk asked n₀ rows i₀ n i = rows - i
 
 pub matching-spec : {M : Type 1} → statement M
 matching-spec =
@@ -19,6 +19,7 @@ matching-spec =
     (λ c κs. search needs)
     (λ c κs. search needs)
     (λ c. search needs)
+    (λ c κs. search needs)
     (λ c κs. search needs)
     (λ c κs. search needs)
     (λ c κs. search needs)

@@ -5,10 +5,10 @@ use Rattle.compare.proofs.saved.is_ascending.Statement.{statement}
 use Rattle.compare.proofs.saved.is_ascending.Tie as tie
 
 abbrev Inv-loop : tie.InvT-loop
-Inv-loop bytes list pairs last₀ i₀ last i = Unit {0}
+Inv-loop bytes desk pairs last₀ i₀ last i = Unit {0}
 
 abbrev μ-loop : tie.MeasureT-loop
-μ-loop bytes list pairs last₀ i₀ last i = pairs - i
+μ-loop bytes desk pairs last₀ i₀ last i = pairs - i
 
 pub is-ascending-spec : {M : Type 1} → statement M
 is-ascending-spec =

@@ -1,16 +1,14 @@
--- `compare::step::are_right` is safe and ends: the list keeps its length, and the measure is the pairs that are left.
+-- `compare::step::are_right` is safe and ends: the measure is the pairs that are left.
 use borrow.Author.Needs.{needs}
-use lib.ListN.{length}
 use Prim.Native.Nat.{_-_}
-use mathlib.Core.Path.{_≡_}
 use Rattle.compare.proofs.step.are_right.Statement.{statement}
 use Rattle.compare.proofs.step.are_right.Tie as tie
 
 abbrev Inv-loop : tie.InvT-loop
-Inv-loop list₀ asked out pairs at₀ counter₀ list at counter = (length list ≡ length list₀)
+Inv-loop desk out asked pairs i₀ i = Unit {0}
 
 abbrev μ-loop : tie.MeasureT-loop
-μ-loop list₀ asked out pairs at₀ counter₀ list at counter = pairs - counter
+μ-loop desk out asked pairs i₀ i = pairs - i
 
 pub are-right-spec : {M : Type 1} → statement M
 are-right-spec =
@@ -18,13 +16,6 @@ are-right-spec =
     (tie.spec
     Inv-loop
     μ-loop
-    (λ c κs. search needs)
-    (λ c. search needs)
-    (λ c κs. search needs)
-    (λ c κs. search needs)
-    (λ c κs. search needs)
-    (λ c κs. search needs)
-    (λ c. search needs)
     (λ c. search needs)
     (λ c κs. search needs)
     (λ c. search needs)

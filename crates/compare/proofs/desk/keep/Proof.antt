@@ -1,18 +1,19 @@
--- `compare::slices::same` is safe and ends: the measure is what is left to compare.
+-- `compare::desk::keep` is safe and ends: the desk keeps its length, and the measure is the cells that are left.
 use borrow.Author.Needs.{needs}
 use lib.ListN.{length}
 use Prim.Native.Nat.{_-_}
-use Rattle.compare.proofs.slices.same.Statement.{statement}
-use Rattle.compare.proofs.slices.same.Tie as tie
+use mathlib.Core.Path.{_≡_}
+use Rattle.compare.proofs.desk.keep.Statement.{statement}
+use Rattle.compare.proofs.desk.keep.Tie as tie
 
 abbrev Inv-loop : tie.InvT-loop
-Inv-loop cells kept from i₀ i = Unit {0}
+Inv-loop desk₀ len to i₀ desk i = length desk ≡ length desk₀
 
 abbrev μ-loop : tie.MeasureT-loop
-μ-loop cells kept from i₀ i = length cells - i
+μ-loop desk₀ len to i₀ desk i = len - i
 
-pub same-spec : {M : Type 1} → statement M
-same-spec =
+pub keep-spec : {M : Type 1} → statement M
+keep-spec =
     tie.close
     (tie.spec
     Inv-loop

@@ -1,17 +1,17 @@
--- `compare::tally::print_kinds` is safe and ends: the measure is the kinds that are left.
+-- `compare::desk::is_same` is safe and ends: the measure is the cells that are left.
 use borrow.Author.Needs.{needs}
 use Prim.Native.Nat.{_-_}
-use Rattle.compare.proofs.tally.print_kinds.Statement.{statement}
-use Rattle.compare.proofs.tally.print_kinds.Tie as tie
+use Rattle.compare.proofs.desk.is_same.Statement.{statement}
+use Rattle.compare.proofs.desk.is_same.Tie as tie
 
 abbrev Inv-loop : tie.InvT-loop
-Inv-loop tally kind₀ kind = Unit {0}
+Inv-loop desk len kept i₀ i = Unit {0}
 
 abbrev μ-loop : tie.MeasureT-loop
-μ-loop tally kind₀ kind = 17 - kind
+μ-loop desk len kept i₀ i = len - i
 
-pub print-kinds-spec : {M : Type 1} → statement M
-print-kinds-spec =
+pub is-same-spec : {M : Type 1} → statement M
+is-same-spec =
     tie.close
     (tie.spec
     Inv-loop
@@ -20,6 +20,7 @@ print-kinds-spec =
     (λ c κs. search needs)
     (λ c κs. search needs)
     (λ c κs. search needs)
+    (λ c. search needs)
     (λ c. search needs)
     (λ c. search needs)
     (λ c. search needs)

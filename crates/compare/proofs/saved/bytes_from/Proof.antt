@@ -1,15 +1,14 @@
--- `compare::slices::bytes_from` is safe and ends: the measure is what is left of the slice.
+-- `compare::saved::bytes_from` is safe and ends: the measure is the bytes that are left.
 use borrow.Author.Needs.{needs}
-use lib.ListN.{length}
 use Prim.Native.Nat.{_-_}
-use Rattle.compare.proofs.slices.bytes_from.Statement.{statement}
-use Rattle.compare.proofs.slices.bytes_from.Tie as tie
+use Rattle.compare.proofs.saved.bytes_from.Statement.{statement}
+use Rattle.compare.proofs.saved.bytes_from.Tie as tie
 
 abbrev Inv-loop : tie.InvT-loop
-Inv-loop s from v i₀ i = Unit {0}
+Inv-loop bytes from i₀ i-end i = Unit {0}
 
 abbrev μ-loop : tie.MeasureT-loop
-μ-loop s from v i₀ i = length s - i
+μ-loop bytes from i₀ i-end i = i-end - i
 
 pub bytes-from-spec : {M : Type 1} → statement M
 bytes-from-spec =

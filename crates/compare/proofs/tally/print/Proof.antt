@@ -1,0 +1,32 @@
+-- `compare::tally::print` is safe and ends: the measure is the bytes of the names that are left.
+use borrow.Author.Needs.{needs}
+use Prim.Native.Nat.{_-_}
+use Rattle.compare.proofs.tally.print.Statement.{statement}
+use Rattle.compare.proofs.tally.print.Tie as tie
+
+abbrev Inv-loop : tie.InvT-loop
+Inv-loop desk names cell₀ i₀ i-end cell i = Unit {0}
+
+abbrev μ-loop : tie.MeasureT-loop
+μ-loop desk names cell₀ i₀ i-end cell i = i-end - i
+
+pub print-spec : {M : Type 1} → statement M
+print-spec =
+    tie.close
+    (tie.spec
+    Inv-loop
+    μ-loop
+    (λ c. search needs)
+    (λ c. search needs)
+    (λ c. search needs)
+    (λ c κs. search needs)
+    (λ c κs. search needs)
+    (λ c. search needs)
+    (λ c. search needs)
+    (λ c. search needs)
+    (λ c. search needs)
+    (λ c κs. search needs)
+    (λ c. search needs)
+    (λ c. search needs)
+    (λ c. search needs)
+    (λ c. search needs))
