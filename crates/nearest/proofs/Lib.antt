@@ -1,5 +1,8 @@
 -- The laws that the proofs of the x walks cite.
 pub mod Closer
-pub mod XWalks
-pub mod SmallestX
-pub mod LargestX
+pub mod Turns
+pub mod Places
+pub mod Sides
+pub mod Rows
+pub mod Going
+pub mod Held

@@ -1,14 +1,15 @@
--- How the x walks choose between a slot's own pair and what was found below it.
+-- How the x walks choose between a slot's own pair and what was found so far.
 use Prim.Native.Nat.{ℕ}
 use mathlib.Core.Path.{_≡_}
-use mathlib.Core.Bool.{Bool}
+use mathlib.Core.Bool.{Bool, cond}
 use mathlib.Core.List.{List}
+use Rattle.rule.specs.declared.Finding.the-variants.{Found, Nothing}
 use Rattle.rule.specs.declared.Pair.{Pair}
 use Rattle.rule.specs.Cells.{pairAt}
-use Rattle.rule.specs.Plain.{inRange, own, closest}
+use Rattle.rule.specs.Plain.{closest}
 use Rattle.questions.specs.Walking.{foundAt, Some}
 
--- of a slot's own pair and what was found below it, the closer one: the pair counts if it is in range
-pub record Nearer (c : List ℕ) (closer : Pair → Pair → Bool) (slot x0 x1 below s : ℕ) : Type 0 where
-  pub found : foundAt c s ≡ closest closer (foundAt c below) (own (inRange x0 x1) (pairAt c slot))
+-- the slot's own pair if it is a hit, unless what was found so far is closer
+pub record Nearer (c : List ℕ) (closer : Pair → Pair → Bool) (hit : Bool) (slot best s : ℕ) : Type 0 where
+  pub found : foundAt c s ≡ closest closer (cond hit (Found (pairAt c slot)) Nothing) (foundAt c best)
   pub some : Some c s

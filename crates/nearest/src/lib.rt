@@ -1,207 +1,103 @@
-// Smallest and largest x over a sound pool, each the other's mirror.
+// Smallest and largest x over a sound pool, each the other's mirror: a loop, with the second sons that wait in rows. A place waits
+// for a slot above whose first son has given nothing so far; slot 0 is an empty place, where the one that came last is next.
 use questions::found_at;
-use rule::Finding;
+use rule::Pair;
 use rule::Stripe;
 use rule::Walked;
 ghost use mathlib.Core.Path.{_≡_};
-ghost use Prim.Native.Nat.{suc, _+_, _≤_};
+ghost use mathlib.Core.Bool.{cond};
+ghost use Prim.Native.Nat.{_≤_};
 ghost use Rattle.rule.specs.Cells.{Fits, rootOf, treeAt};
-ghost use Rattle.rule.specs.Plain.{limits, smaller, larger};
+ghost use Rattle.rule.specs.Plain.{limits, inRange, smaller, larger};
 ghost use Rattle.rule.specs.Shape.{stripeOf};
 ghost use Rattle.rule.specs.Sound.{Sound, allLevels};
-ghost use Rattle.rule.specs.Stripe.{rootStripe};
-ghost use Rattle.rule.specs.Walks.{smallestX, largestX, ask};
-ghost use Rattle.questions.specs.Walking.{Some, Asked, Made};
+ghost use Rattle.rule.specs.Stripe.{Low, rootStripe};
+ghost use Rattle.rule.specs.Walks.{smallestX, largestX};
+ghost use Rattle.questions.specs.Walking.{Some};
 ghost use Rattle.nearest.specs.Nearer.{Nearer};
+ghost use Rattle.nearest.specs.Asking.{leftAsked, rightAsked};
 
-// The slot's own pair, if it is in range and smaller than what was found below it.
-fn smaller_of(pool: &[u32], slot: u32, x0: u32, x1: u32, below: u32) -> u32
-    requires { ⌜ (1 ≤ slot) × Fits (now pool) slot × Some (now pool) below ⌝ }
-    ensures { λ r. ⌜ Nearer (now (pool .entry)) smaller slot x0 x1 below r ⌝ }
+// Room for the places that wait: at most one for each level below the root.
+const ROOM: usize = 32;
+
+// Whether the pair's x is in range.
+fn in_range(p: Pair, x0: u32, x1: u32) -> bool
+    ensures { λ r. ⌜ r ≡ inRange x0 x1 p ⌝ }
 {
-    let p = cells::pair(pool, slot);
     if p.x < x0 {
-        return below;
+        return false;
     }
-    if x1 < p.x {
-        return below;
-    }
-    if below == 0 {
-        return slot;
-    }
-    let b = cells::pair(pool, below);
-    if p.x < b.x {
-        return slot;
-    }
-    below
+    p.x <= x1
 }
 
-// Smallest x at a slot, with so many levels below it.
-fn smallest_at(
-    pool: &[u32],
-    levels: u32,
-    slot: u32,
-    at: Stripe,
-    x0: u32,
-    x1: u32,
-    y1: u32,
-    visits: &mut u32,
-) -> u32
-    requires { ⌜ (1 ≤ slot) × Asked (now pool) (suc levels) slot (stripeOf at) (now visits) ⌝ }
-    ensures { λ r. ⌜ Made (now (pool .entry)) (now (visits .entry)) (smallestX (limits x0 x1 y1) (stripeOf at) (treeAt (now (pool .entry)) (suc levels) slot)) r (now (visits .exit)) ⌝ }
+// The slot's own pair, if it is a hit, unless what was found so far is smaller.
+fn smaller_of(pool: &[u32], hit: bool, slot: u32, best: u32) -> u32
+    requires { ⌜ (1 ≤ slot) × Fits (now pool) slot × Some (now pool) best ⌝ }
+    ensures { λ r. ⌜ Nearer (now (pool .entry)) smaller hit slot best r ⌝ }
 {
-    *visits += 1;
+    if !hit {
+        return best;
+    }
+    if best == 0 {
+        return slot;
+    }
+    let b = cells::pair(pool, best);
     let p = cells::pair(pool, slot);
-    if y1 < p.y {
-        return 0;
-    }
-    let left = cells::left(pool, slot);
-    let l = smallest_son(
-        pool,
-        levels,
-        left,
-        at.goes_left(x0),
-        at.left(),
-        x0,
-        x1,
-        y1,
-        visits,
-    );
-    if l != 0 {
-        return smaller_of(pool, slot, x0, x1, l);
-    }
-    let right = cells::right(pool, slot);
-    let r = smallest_son(
-        pool,
-        levels,
-        right,
-        !at.goes_left(x1),
-        at.right(),
-        x0,
-        x1,
-        y1,
-        visits,
-    );
-    smaller_of(pool, slot, x0, x1, r)
-}
-
-// Smallest x at a son's place, if the son is there and asked.
-fn smallest_son(
-    pool: &[u32],
-    levels: u32,
-    slot: u32,
-    go: bool,
-    at: Stripe,
-    x0: u32,
-    x1: u32,
-    y1: u32,
-    visits: &mut u32,
-) -> u32
-    requires { ⌜ Asked (now pool) levels slot (stripeOf at) (now visits) ⌝ }
-    ensures { λ r. ⌜ Made (now (pool .entry)) (now (visits .entry)) (ask go (smallestX (limits x0 x1 y1) (stripeOf at) (treeAt (now (pool .entry)) levels slot))) r (now (visits .exit)) ⌝ }
-{
-    if slot == 0 {
-        return 0;
-    }
-    if go {
-        return smallest_at(pool, levels - 1, slot, at, x0, x1, y1, visits);
-    }
-    0
-}
-
-// The slot's own pair, if it is in range and larger than what was found below it.
-fn larger_of(pool: &[u32], slot: u32, x0: u32, x1: u32, below: u32) -> u32
-    requires { ⌜ (1 ≤ slot) × Fits (now pool) slot × Some (now pool) below ⌝ }
-    ensures { λ r. ⌜ Nearer (now (pool .entry)) larger slot x0 x1 below r ⌝ }
-{
-    let p = cells::pair(pool, slot);
-    if p.x < x0 {
-        return below;
-    }
-    if x1 < p.x {
-        return below;
-    }
-    if below == 0 {
-        return slot;
-    }
-    let b = cells::pair(pool, below);
     if b.x < p.x {
+        return best;
+    }
+    slot
+}
+
+// The slot's own pair, if it is a hit, unless what was found so far is larger.
+fn larger_of(pool: &[u32], hit: bool, slot: u32, best: u32) -> u32
+    requires { ⌜ (1 ≤ slot) × Fits (now pool) slot × Some (now pool) best ⌝ }
+    ensures { λ r. ⌜ Nearer (now (pool .entry)) larger hit slot best r ⌝ }
+{
+    if !hit {
+        return best;
+    }
+    if best == 0 {
         return slot;
     }
-    below
-}
-
-// Largest x at a slot, with so many levels below it.
-fn largest_at(
-    pool: &[u32],
-    levels: u32,
-    slot: u32,
-    at: Stripe,
-    x0: u32,
-    x1: u32,
-    y1: u32,
-    visits: &mut u32,
-) -> u32
-    requires { ⌜ (1 ≤ slot) × Asked (now pool) (suc levels) slot (stripeOf at) (now visits) ⌝ }
-    ensures { λ r. ⌜ Made (now (pool .entry)) (now (visits .entry)) (largestX (limits x0 x1 y1) (stripeOf at) (treeAt (now (pool .entry)) (suc levels) slot)) r (now (visits .exit)) ⌝ }
-{
-    *visits += 1;
+    let b = cells::pair(pool, best);
     let p = cells::pair(pool, slot);
-    if y1 < p.y {
-        return 0;
+    if p.x < b.x {
+        return best;
     }
-    let right = cells::right(pool, slot);
-    let r = largest_son(
-        pool,
-        levels,
-        right,
-        !at.goes_left(x1),
-        at.right(),
-        x0,
-        x1,
-        y1,
-        visits,
-    );
-    if r != 0 {
-        return larger_of(pool, slot, x0, x1, r);
-    }
-    let left = cells::left(pool, slot);
-    let l = largest_son(
-        pool,
-        levels,
-        left,
-        at.goes_left(x0),
-        at.left(),
-        x0,
-        x1,
-        y1,
-        visits,
-    );
-    larger_of(pool, slot, x0, x1, l)
+    slot
 }
 
-// Largest x at a son's place, if the son is there and asked.
-fn largest_son(
-    pool: &[u32],
-    levels: u32,
-    slot: u32,
-    go: bool,
-    at: Stripe,
-    x0: u32,
-    x1: u32,
-    y1: u32,
-    visits: &mut u32,
-) -> u32
-    requires { ⌜ Asked (now pool) levels slot (stripeOf at) (now visits) ⌝ }
-    ensures { λ r. ⌜ Made (now (pool .entry)) (now (visits .entry)) (ask go (largestX (limits x0 x1 y1) (stripeOf at) (treeAt (now (pool .entry)) levels slot))) r (now (visits .exit)) ⌝ }
+// How many places still wait: behind a hit none, since the first son of each slot above has now given something.
+fn still(hit: bool, wait: usize) -> usize
+    ensures { λ r. ⌜ r ≡ cond hit 0 wait ⌝ }
 {
-    if slot == 0 {
+    if hit {
         return 0;
     }
-    if go {
-        return largest_at(pool, levels - 1, slot, at, x0, x1, y1, visits);
+    wait
+}
+
+// The left son, if it is asked.
+fn left_asked(pool: &[u32], slot: u32, at: Stripe, x0: u32) -> u32
+    requires { ⌜ Fits (now pool) slot × Low (stripeOf at) ⌝ }
+    ensures { λ r. ⌜ r ≡ leftAsked (now (pool .entry)) slot (stripeOf at) x0 ⌝ }
+{
+    if at.goes_left(x0) {
+        return cells::left(pool, slot);
     }
     0
+}
+
+// The right son, if it is asked.
+fn right_asked(pool: &[u32], slot: u32, at: Stripe, x1: u32) -> u32
+    requires { ⌜ Fits (now pool) slot × Low (stripeOf at) ⌝ }
+    ensures { λ r. ⌜ r ≡ rightAsked (now (pool .entry)) slot (stripeOf at) x1 ⌝ }
+{
+    if at.goes_left(x1) {
+        return 0;
+    }
+    cells::right(pool, slot)
 }
 
 // The pair with the smallest x in the limits.
@@ -209,27 +105,56 @@ pub fn smallest_x(pool: &[u32], x0: u32, x1: u32, y1: u32) -> Walked
     requires { ⌜ Sound (now pool) ⌝ }
     ensures { λ r. ⌜ r ≡ smallestX (limits x0 x1 y1) rootStripe (treeAt (now (pool .entry)) allLevels (rootOf (now (pool .entry)))) ⌝ }
 {
-    let root = cells::root(pool);
-    if root == 0 {
-        return Walked {
-            finding: Finding::Nothing,
-            visits: 0,
-        };
-    }
+    let mut slots = [0u32; ROOM];
+    let mut lowers = [0u64; ROOM];
+    let mut uppers = [0u64; ROOM];
+    let mut wait: usize = 0;
+    let mut slot = cells::root(pool);
+    let mut at = Stripe::root();
+    let mut best: u32 = 0;
     let mut visits: u32 = 0;
-    let slot = smallest_at(
-        pool,
-        Stripe::LEVELS,
-        root,
-        Stripe::root(),
-        x0,
-        x1,
-        y1,
-        &mut visits,
-    );
-    Walked {
-        finding: found_at(pool, slot),
-        visits,
+    loop {
+        if slot == 0 {
+            if wait == 0 {
+                break Walked {
+                    finding: found_at(pool, best),
+                    visits,
+                };
+            }
+            wait -= 1;
+            slot = slots[wait];
+            at = Stripe {
+                lower: lowers[wait],
+                upper: uppers[wait],
+            };
+            continue;
+        }
+        visits += 1;
+        let p = cells::pair(pool, slot);
+        if y1 < p.y {
+            slot = 0;
+            continue;
+        }
+        let hit = in_range(p, x0, x1);
+        best = smaller_of(pool, hit, slot, best);
+        wait = still(hit, wait);
+        let left = left_asked(pool, slot, at, x0);
+        let right = right_asked(pool, slot, at, x1);
+        if left == 0 {
+            slot = right;
+            at = at.right();
+            continue;
+        }
+        let near = at.left();
+        if right != 0 {
+            let far = at.right();
+            slots[wait] = right;
+            lowers[wait] = far.lower;
+            uppers[wait] = far.upper;
+            wait += 1;
+        }
+        slot = left;
+        at = near;
     }
 }
 
@@ -238,26 +163,55 @@ pub fn largest_x(pool: &[u32], x0: u32, x1: u32, y1: u32) -> Walked
     requires { ⌜ Sound (now pool) ⌝ }
     ensures { λ r. ⌜ r ≡ largestX (limits x0 x1 y1) rootStripe (treeAt (now (pool .entry)) allLevels (rootOf (now (pool .entry)))) ⌝ }
 {
-    let root = cells::root(pool);
-    if root == 0 {
-        return Walked {
-            finding: Finding::Nothing,
-            visits: 0,
-        };
-    }
+    let mut slots = [0u32; ROOM];
+    let mut lowers = [0u64; ROOM];
+    let mut uppers = [0u64; ROOM];
+    let mut wait: usize = 0;
+    let mut slot = cells::root(pool);
+    let mut at = Stripe::root();
+    let mut best: u32 = 0;
     let mut visits: u32 = 0;
-    let slot = largest_at(
-        pool,
-        Stripe::LEVELS,
-        root,
-        Stripe::root(),
-        x0,
-        x1,
-        y1,
-        &mut visits,
-    );
-    Walked {
-        finding: found_at(pool, slot),
-        visits,
+    loop {
+        if slot == 0 {
+            if wait == 0 {
+                break Walked {
+                    finding: found_at(pool, best),
+                    visits,
+                };
+            }
+            wait -= 1;
+            slot = slots[wait];
+            at = Stripe {
+                lower: lowers[wait],
+                upper: uppers[wait],
+            };
+            continue;
+        }
+        visits += 1;
+        let p = cells::pair(pool, slot);
+        if y1 < p.y {
+            slot = 0;
+            continue;
+        }
+        let hit = in_range(p, x0, x1);
+        best = larger_of(pool, hit, slot, best);
+        wait = still(hit, wait);
+        let left = left_asked(pool, slot, at, x0);
+        let right = right_asked(pool, slot, at, x1);
+        if right == 0 {
+            slot = left;
+            at = at.left();
+            continue;
+        }
+        let near = at.right();
+        if left != 0 {
+            let far = at.left();
+            slots[wait] = left;
+            lowers[wait] = far.lower;
+            uppers[wait] = far.upper;
+            wait += 1;
+        }
+        slot = right;
+        at = near;
     }
 }

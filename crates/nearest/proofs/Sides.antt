@@ -1,0 +1,114 @@
+-- A slot's sons as each x walk asks them: smallest x the left one first, largest x the right one.
+use Prim.Native.Nat.{ℕ, suc, _+_, _≤_}
+use mathlib.Core.Path.{_≡_, refl, _∙_}
+use mathlib.Core.Bool.{Bool, true, false}
+use mathlib.Core.List.{List}
+use native.Mathlib.Omega.{arith}
+use lib.Dec.{ltb, leb}
+use Rattle.rule.specs.declared.Finding.the-variants.{Nothing}
+use Rattle.rule.specs.declared.Limits.{Limits}
+use Rattle.rule.specs.declared.Pair.{Pair}
+use Rattle.rule.specs.declared.Walked.{Walked}
+use Rattle.rule.specs.Cells.{pairAt, leftAt, rightAt, sonAt, treeAt}
+use Rattle.rule.specs.Plain.{smaller, larger}
+use Rattle.rule.specs.Sound.{Leads, lowLevels, allLevels}
+use Rattle.rule.specs.Stripe.{Stripe, middle, leftPart, rightPart}
+use Rattle.rule.specs.Tree.{Tree, none, fork, size, Within}
+use Rattle.rule.specs.Walks.{seen, ask, byX, smallestX, largestX}
+use Rattle.rule.proofs.Best.{Ranks, by-smaller, by-larger}
+use Rattle.rule.proofs.Leads.{tree-fork, leads-son}
+use Rattle.rule.proofs.Stripes.{low-left, low-right}
+use Rattle.nearest.specs.Asking.{leftAsked, rightAsked}
+use Rattle.nearest.specs.Waiting.{Place, place, treeOf, Stands}
+use Rattle.nearest.proofs.Places.{within-more, asked-walk, asked-stands, asked-size}
+
+-- what both x walks have: nothing on an empty tree, and a closer x that ranks
+pub record ByX (W : Stripe → Tree Pair → Walked) (closer : Pair → Pair → Bool) : Type 0 where
+  pub empty : (at : Stripe) → W at none ≡ seen Nothing 0
+  pub ranks : Ranks closer
+
+-- two places are a slot's sons as a walk asks them: the rule gives its answer by theirs, and each has a level less
+pub record Sons (W : Stripe → Tree Pair → Walked) (closer : Pair → Pair → Bool) (q : Limits) (c : List ℕ) (k : ℕ) (here near far : Place) : Type 0 where
+  pub gives : W (here .at) (treeOf c here) ≡ byX closer q (pairAt c (here .slot)) (W (near .at) (treeOf c near)) (W (far .at) (treeOf c far))
+  pub slots : size (treeOf c near) + size (treeOf c far) + 1 ≤ size (treeOf c here)
+  pub near-stands : (j : ℕ) → k ≤ suc j → Stands c j near
+  pub far-stands : (j : ℕ) → k ≤ suc j → Stands c j far
+
+pub smallest : (q : Limits) → ByX (smallestX q) smaller
+unfolding smallestX
+smallest q = record { empty = λ at. refl; ranks = by-smaller }
+
+pub largest : (q : Limits) → ByX (largestX q) larger
+unfolding largestX
+largest q = record { empty = λ at. refl; ranks = by-larger }
+
+module _ (c : List ℕ) (k s : ℕ) (at : Stripe) (q : Limits) (o : Stands c k (place s at)) (ne : s ≡ 0 → ⊥) where
+  left-leads : Leads c (leftAt c s) (treeAt c lowLevels (leftAt c s))
+  unfolding sonAt
+  left-leads = leads-son c lowLevels s true (o .leads) ne
+
+  right-leads : Leads c (rightAt c s) (treeAt c lowLevels (rightAt c s))
+  unfolding sonAt
+  right-leads = leads-son c lowLevels s false (o .leads) ne
+
+  here-is : treeAt c allLevels s ≡ fork s (pairAt c s) (treeAt c lowLevels (leftAt c s)) (treeAt c lowLevels (rightAt c s))
+  here-is = tree-fork c lowLevels s ne
+
+  below : (j : ℕ) → k ≤ suc j → Within j (treeAt c lowLevels (leftAt c s)) × Within j (treeAt c lowLevels (rightAt c s))
+  below j h = within-more k (suc j) (fork s (pairAt c s) (treeAt c lowLevels (leftAt c s)) (treeAt c lowLevels (rightAt c s))) h (rw here-is at (o .levels))
+
+  left-stands : (j : ℕ) → k ≤ suc j → Stands c j (place (leftAsked c s at (q .x0)) (leftPart at))
+  unfolding leftAsked
+  left-stands j h = asked-stands c (ltb (q .x0) (middle at)) (leftAt c s) j (leftPart at) left-leads (low-left (o .low) refl) (below j h .0)
+
+  right-stands : (j : ℕ) → k ≤ suc j → Stands c j (place (rightAsked c s at (q .x1)) (rightPart at))
+  unfolding rightAsked
+  right-stands j h = asked-stands c (leb (middle at) (q .x1)) (rightAt c s) j (rightPart at) right-leads (low-right (o .low) refl) (below j h .1)
+
+  sizes : size (treeAt c allLevels (leftAsked c s at (q .x0))) + size (treeAt c allLevels (rightAsked c s at (q .x1))) + 1 ≤ size (treeAt c allLevels s)
+  unfolding leftAsked rightAsked
+  sizes =
+      let a = asked-size c (ltb (q .x0) (middle at)) (leftAt c s) left-leads in
+      let b = asked-size c (leb (middle at) (q .x1)) (rightAt c s) right-leads in
+      rw here-is (omega arith)
+
+  -- what the left son gives, and the right one, to either walk
+  module _ (W : Stripe → Tree Pair → Walked) (empty : (at : Stripe) → W at none ≡ seen Nothing 0) where
+    left-walk : ask (ltb (q .x0) (middle at)) (W (leftPart at) (treeAt c lowLevels (leftAt c s))) ≡ W (leftPart at) (treeAt c allLevels (leftAsked c s at (q .x0)))
+    unfolding leftAsked
+    left-walk = asked-walk c W empty (ltb (q .x0) (middle at)) (leftAt c s) (leftPart at) left-leads
+
+    right-walk : ask (leb (middle at) (q .x1)) (W (rightPart at) (treeAt c lowLevels (rightAt c s))) ≡ W (rightPart at) (treeAt c allLevels (rightAsked c s at (q .x1)))
+    unfolding rightAsked
+    right-walk = asked-walk c W empty (leb (middle at) (q .x1)) (rightAt c s) (rightPart at) right-leads
+
+  smallest-fork : smallestX q at (treeAt c allLevels s)
+      ≡ byX smaller q (pairAt c s) (ask (ltb (q .x0) (middle at)) (smallestX q (leftPart at) (treeAt c lowLevels (leftAt c s))))
+      (ask (leb (middle at) (q .x1)) (smallestX q (rightPart at) (treeAt c lowLevels (rightAt c s))))
+  unfolding smallestX
+  smallest-fork = rw here-is
+
+  largest-fork : largestX q at (treeAt c allLevels s)
+      ≡ byX larger q (pairAt c s) (ask (leb (middle at) (q .x1)) (largestX q (rightPart at) (treeAt c lowLevels (rightAt c s))))
+      (ask (ltb (q .x0) (middle at)) (largestX q (leftPart at) (treeAt c lowLevels (leftAt c s))))
+  unfolding largestX
+  largest-fork = rw here-is
+
+  module _ (l r : ℕ) (lp rp : Stripe) (el : l ≡ leftAsked c s at (q .x0)) (er : r ≡ rightAsked c s at (q .x1)) (elp : lp ≡ leftPart at) (erp : rp ≡ rightPart at) where
+    -- law: smallest x asks left, then right
+    pub smallest-sons : Sons (smallestX q) smaller q c k (place s at) (place l lp) (place r rp)
+    smallest-sons = rw (el, er, elp, erp) (record {
+      gives = smallest-fork ∙ (λ i. byX smaller q (pairAt c s) (left-walk (smallestX q) (smallest q .empty) i) (right-walk (smallestX q) (smallest q .empty) i));
+      slots = sizes;
+      near-stands = left-stands;
+      far-stands = right-stands;
+    })
+
+    -- law: largest x asks right, then left
+    pub largest-sons : Sons (largestX q) larger q c k (place s at) (place r rp) (place l lp)
+    largest-sons = rw (el, er, elp, erp) (record {
+      gives = largest-fork ∙ (λ i. byX larger q (pairAt c s) (right-walk (largestX q) (largest q .empty) i) (left-walk (largestX q) (largest q .empty) i));
+      slots = omega (arith, sizes);
+      near-stands = right-stands;
+      far-stands = left-stands;
+    })
