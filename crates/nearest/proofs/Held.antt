@@ -75,7 +75,7 @@ module _ {W : Stripe → Tree Pair → Walked} {closer : Pair → Pair → Bool}
         omega arith
 
   module _ (B : ByX W closer) where
-    -- law: the walk is at its end where no place is kept
+    -- law: the walk is at its end where no place is left
     pub stop : s ≡ 0 → wait ≡ 0 → {f : Finding} → f ≡ foundAt c best → seen f v ≡ answer
     stop e z ef = rw ef (ends W (B .empty) c closer answer best v (rw (waiting-none slots lowers uppers wait z) at (next W (B .empty) c closer answer best v (place s at) ws e (H .going))))
 

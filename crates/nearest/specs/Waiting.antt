@@ -21,6 +21,7 @@ pub record Place : Type 0 where
   pub slot : ℕ
   pub at : Stripe
 
+-- the place with this slot and this stripe
 abbrev pub place : ℕ → Stripe → Place
 place s at = record { slot = s; at = at }
 
@@ -70,8 +71,9 @@ pub record Going (W : Stripe → Tree Pair → Walked) (closer : Pair → Pair �
   pub few : v + slotsAt c ps < 4294967296
   pub asked : since closer (foundAt c best) v (inTurn W c ps) ≡ answer
 
--- the same, with the places that wait in the code's rows, which have room for so many
-pub record Held (W : Stripe → Tree Pair → Walked) (closer : Pair → Pair → Bool) (c : List ℕ) (answer : Walked) (slots lowers uppers : List ℕ) (wait slot : ℕ) (at : Stripe) (best v : ℕ) : Type 0 where
+-- the same, with the places that wait in the code's rows, which have room for one a level
+pub record Held (W : Stripe → Tree Pair → Walked) (closer : Pair → Pair → Bool) (c : List ℕ) (answer : Walked) (slots lowers uppers : List ℕ) (wait slot : ℕ)
+    (at : Stripe) (best v : ℕ) : Type 0 where
   pub room : (length slots ≡ lowLevels) × (length lowers ≡ lowLevels) × (length uppers ≡ lowLevels)
   pub most : wait ≤ lowLevels
   pub going : Going W closer c answer (place slot at ∷ waiting slots lowers uppers wait) best v
