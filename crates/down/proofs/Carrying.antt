@@ -296,13 +296,3 @@ module _ {c : List ℕ} {k cell : ℕ} {at : Stripe} {p q : Pair} {t : Bool} (ne
 
   pub passed : {d : List ℕ} → Carried c (k - 1) cell′ at′ p d → Carried c k cell at p d
   passed {d} h = rw (back k (within-some k (g .down) (g .levels))) at (gone here ne {d′ = d} (settle-keep eq et f) eb ec ea (rw (back (k - 1) (deep here ne)) h))
-
--- law: a place that a pair can go down from has a level
-pub going-some : {c : List ℕ} {k cell : ℕ} {at : Stripe} {p : Pair} → Going c k cell at p → k ≡ 0 → ⊥
-going-some {k = k} g = within-some k (g .down) (g .levels)
-
-pub going-suc : {c : List ℕ} {k cell : ℕ} {at : Stripe} {p : Pair} → Going c k cell at p → Going c (suc (k - 1)) cell at p
-going-suc {k = k} g = rw (back k (going-some g)) g
-
-pub carried-suc : {c d : List ℕ} {k cell : ℕ} {at : Stripe} {p : Pair} → Going c k cell at p → Carried c (suc (k - 1)) cell at p d → Carried c k cell at p d
-carried-suc {k = k} g h = rw (back k (going-some g)) at h

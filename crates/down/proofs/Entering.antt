@@ -1,5 +1,6 @@
--- A pair that enters a sound pool: it goes down from the root, and the count moves.
-use Prim.Native.Nat.{ℕ, _+_, _-_, _≤_, _<_}
+-- A pair that enters a sound pool: it goes down from the root, and the count moves. What is above the place where it first changes
+-- something can be passed over.
+use Prim.Native.Nat.{ℕ, zero, suc, _+_, _≤_, _<_}
 use mathlib.Core.Path.{_≡_, refl, sym, _∙_}
 use mathlib.Core.Logic.{_≢_}
 use mathlib.Core.Bool.{Bool, true, false}
@@ -12,14 +13,16 @@ use Rattle.rule.specs.declared.Pair.{Pair}
 use Rattle.rule.specs.Plain.{hasX}
 use Rattle.rule.specs.Pairs.{beats}
 use Rattle.rule.specs.Stripe.{Stripe, rootStripe, middle, partOf}
+use Rattle.rule.specs.Tree.{Tree, none, fork, size, Within}
 use Rattle.rule.specs.Changes.{met}
 use Rattle.rule.specs.Cells.{Fits, rootOf, freeOf, countOf, pairAt, sonAt, linkCell, stored, treeAt}
-use Rattle.rule.specs.Sound.{Sound, allLevels, itself}
+use Rattle.rule.specs.Sound.{Sound, Leads, lowLevels, allLevels, itself}
 use Rattle.rule.specs.Laid.{inserted}
 use Rattle.rule.proofs.Tests.{on, clash}
 use Rattle.rule.proofs.Order.{pair-ext}
 use Rattle.rule.proofs.Stripes.{low-root}
 use Rattle.rule.proofs.Trees.{all-map, all-mem, New}
+use Rattle.rule.proofs.Leads.{tree-fork, tree-within, leads-tree, leads-son}
 use Rattle.rule.proofs.Levels.{root-levels}
 use Rattle.rule.proofs.Halving.{mem-met, new-unmet}
 use Rattle.rule.proofs.Having.{hasX-true, true-hasX}
@@ -99,15 +102,15 @@ module _ {c : List ℕ} {p : Pair} (n : Enters c p) where
     root-replaced h = rw (ea, sound-tree c (n .sound)) at (h .place)
 
     -- law: where it has, and the count has moved, the pool is the one with the pair inserted
-    pub entered : {d d′ : List ℕ} {k : ℕ} → Carried c allLevels 1 at p d → k ≡ countOf c → d′ ≡ set d 3 (k + 1) → d′ ≡ inserted c p
-    entered {d} {d′} h ek ed =
+    pub entered : (d : List ℕ) → Carried c allLevels 1 at p d → set d 3 (countOf c + 1) ≡ inserted c p
+    entered d h =
         let s = n .sound in
         let R = root-replaced h in
         let v = countOf c + 1 in
         let z : (u : ℕ) → Stands u (grown s p) → 1 ≤ u = λ u m. leads-slot (grown s p) (R .leads) m .some in
         let f = header-there in
         let l = R .long in
-        ed ∙ rw ek (inserted-one s p (n .new) b (n .room) (record {
+        inserted-one s p (n .new) b (n .room) (record {
           long = length-set d 3 v ∙ R .long;
           header = record {
             pair = pair-ext (getD-set-other d 3 0 v 0 (omega arith) ∙ R .rest 0 (omega arith) (omega arith) (λ m. omega (arith, z 0 m)) ∙ s .mark)
@@ -118,10 +121,10 @@ module _ {c : List ℕ} {p : Pair} (n : Enters c p) where
           leads = leads-frame (length-set d 3 v) (R .leads) (λ u m. agree-cells u (λ j q. getD-set-other d 3 j v 0 (λ i. omega (arith, z u m))));
           rest = λ u o m. let a = o .some in
               agree-cells u (λ j q. getD-set-other d 3 j v 0 (λ i. omega arith) ∙ R .rest j (λ i. omega arith) (λ i. omega arith) (λ k. m (rw q at k)));
-        }))
+        })
 
 -- law: the way down starts at the root
-pub reached-root : {c : List ℕ} {p : Pair} {at : Stripe} → Sound c → p .x < 4294967296 → at ≡ rootStripe → Reached c p allLevels 1 at
+pub reached-root : {c : List ℕ} {p : Pair} {at : Stripe} → Sound c → p .x < 4294967296 → at ≡ rootStripe → Reached c p 1 at
 reached-root {c} {p} {at} s b ea =
     let h = header-fits (s .pool) in
     record {
@@ -129,21 +132,77 @@ reached-root {c} {p} {at} s b ea =
       sought = root-sought s (rootOf c) at refl ea;
       same = root-met s (p .x) (rootOf c) at _ refl ea refl;
       going = λ n. root-going n b ea;
-      whole = λ n d h. rw ea at h;
+      whole = λ n. entered n b ea;
     }
 
--- law: on past a pair that p does not beat
-pub reached-on : {c : List ℕ} {k cell : ℕ} {at : Stripe} {p q : Pair} {t : Bool} → Reached c p k cell at → (getD c cell 0 ≡ 0 → ⊥) → q ≡ pairAt c (getD c cell 0)
-    → (q .x ≡ p .x → ⊥) → t ≡ beats p q → t ≡ false → {side : Bool} {cell′ : ℕ} {at′ : Stripe} → side ≡ ltb (p .x) (middle at) → cell′ ≡ linkCell (getD c cell 0) side
-    → at′ ≡ partOf at (p .x) → Reached c p (k - 1) cell′ at′
-reached-on {c} {k} {cell} {at} {p} R ne eq nx et f {side} {cell′} {at′} eb ec ea =
-    let s = getD c cell 0 in
-    let nx′ : pairAt c s .x ≡ p .x → ⊥ = rw eq at nx in
-    let es : getD c cell′ 0 ≡ sonAt c s side = rw ec (linked c s side) in
-    record {
-      inside = rw ec (link-inside c s side (there c k s at (p .x) (R .sought) ne));
-      sought = sought-on c k s at (p .x) (R .sought) ne nx′ side _ at′ eb es ea;
-      same = met-on c k s at (p .x) (R .sought) ne nx′ side _ at′ eb es ea ∙ R .same;
-      going = λ n. passes ne eq et f eb ec ea (R .going n);
-      whole = λ n d h. R .whole n d (passed ne eq et f eb ec ea (R .going n) h);
-    }
+within-more : (k : ℕ) (t : Tree Pair) → Within k t → Within (suc k) t
+within-more k none h = tt
+within-more zero (fork s p l r) h = absurd h
+within-more (suc k) (fork s p l r) h = (within-more k l (h .0), within-more k r (h .1))
+
+-- a place that is read one level deeper than there is need
+module _ {c : List ℕ} (k : ℕ) where
+  deeper-tree : {s : ℕ} → Leads c s (treeAt c k s) → treeAt c (suc k) s ≡ treeAt c k s
+  deeper-tree {s} l = leads-tree c (suc k) l (within-more k (treeAt c k s) (tree-within c k s))
+
+  deeper-sought : {s : ℕ} {at : Stripe} → Sought c k s at → Sought c (suc k) s at
+  deeper-sought o = record { leads = rw (deeper-tree (o .leads)) (o .leads); low = o .low }
+
+  deeper-going : {cell : ℕ} {at : Stripe} {p : Pair} → Going c k cell at p → Going c (suc k) cell at p
+  deeper-going g = record {
+    before = g .before;
+    after = g .after;
+    inside = g .inside;
+    leads = g .leads;
+    distinct = g .distinct;
+    apart = g .apart;
+    free = g .free;
+    new = g .new;
+    elsewhere = g .elsewhere;
+    other = g .other;
+    down = g .down;
+    levels = within-more k (g .after) (g .levels);
+    low = g .low;
+  }
+
+  son-smaller : {s : ℕ} (b : Bool) → Leads c s (treeAt c (suc k) s) → (s ≡ 0 → ⊥) → size (treeAt c (suc k) (sonAt c s b)) < size (treeAt c (suc k) s)
+  unfolding sonAt
+  son-smaller {s} true l ne = rw (deeper-tree (leads-son c k s true l ne), tree-fork c k s ne) (omega arith)
+  son-smaller {s} false l ne = rw (deeper-tree (leads-son c k s false l ne), tree-fork c k s ne) (omega arith)
+
+-- on past a pair that p does not beat
+module _ {c : List ℕ} {cell : ℕ} {at : Stripe} {p q : Pair} {t : Bool} (R : Reached c p cell at) (ne : getD c cell 0 ≡ 0 → ⊥) (eq : q ≡ pairAt c (getD c cell 0))
+    (nx : q .x ≡ p .x → ⊥) (et : t ≡ beats p q) (f : t ≡ false) {side : Bool} {cell′ : ℕ} {at′ : Stripe} (eb : side ≡ ltb (p .x) (middle at))
+    (ec : cell′ ≡ linkCell (getD c cell 0) side) (ea : at′ ≡ partOf at (p .x)) where
+  abbrev s : ℕ
+  s = getD c cell 0
+
+  es : getD c cell′ 0 ≡ sonAt c s side
+  es = rw ec (linked c s side)
+
+  nx′ : pairAt c s .x ≡ p .x → ⊥
+  nx′ = rw eq at nx
+
+  next : Sought c lowLevels (getD c cell′ 0) at′
+  next = sought-on c allLevels s at (p .x) (R .sought) ne nx′ side _ at′ eb es ea
+
+  -- the son's place, read as deep as any
+  same-tree : treeAt c allLevels (getD c cell′ 0) ≡ treeAt c lowLevels (getD c cell′ 0)
+  same-tree = deeper-tree lowLevels (next .leads)
+
+  shallower : {d : List ℕ} → Carried c allLevels cell′ at′ p d → Carried c lowLevels cell′ at′ p d
+  shallower h = record { place = rw same-tree at (h .place); first = h .first }
+
+  -- law: the son's place is on the way
+  pub reached-on : Reached c p cell′ at′
+  reached-on = record {
+    inside = rw ec (link-inside c s side (there c allLevels s at (p .x) (R .sought) ne));
+    sought = deeper-sought lowLevels next;
+    same = rw same-tree (met-on c allLevels s at (p .x) (R .sought) ne nx′ side _ at′ eb es ea ∙ R .same);
+    going = λ n. deeper-going lowLevels (passes ne eq et f eb ec ea (R .going n));
+    whole = λ n d h. R .whole n d (passed ne eq et f eb ec ea (R .going n) (shallower h));
+  }
+
+  -- law: and has fewer slots from it down
+  pub fewer : size (treeAt c allLevels (getD c cell′ 0)) < size (treeAt c allLevels s)
+  fewer = rw es (son-smaller lowLevels side (R .sought .leads) ne)

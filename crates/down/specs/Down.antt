@@ -1,5 +1,5 @@
 -- A pair that goes down from a place.
-use Prim.Native.Nat.{ℕ, _<_, _/_}
+use Prim.Native.Nat.{ℕ, _+_, _<_, _/_}
 use mathlib.Core.Path.{_≡_}
 use mathlib.Core.Logic.{_≢_}
 use mathlib.Core.Bool.{cond}
@@ -8,10 +8,11 @@ use lib.ListN.{length, getD, set}
 use Rattle.rule.specs.declared.Pair.{Pair}
 use Rattle.rule.specs.Pairs.{beats}
 use Rattle.rule.specs.Plain.{hasX}
-use Rattle.rule.specs.Stripe.{Stripe, Low, rootStripe}
+use Rattle.rule.specs.Stripe.{Stripe, Low}
 use Rattle.rule.specs.Tree.{Tree, Within}
 use Rattle.rule.specs.Changes.{met, goDown}
-use Rattle.rule.specs.Cells.{perSlot, freeOf, pairAt, rightAt, putPair, putLinks, treeAt, stored}
+use Rattle.rule.specs.Cells.{perSlot, freeOf, countOf, pairAt, rightAt, putPair, putLinks, treeAt, stored}
+use Rattle.rule.specs.Laid.{inserted}
 use Rattle.rule.specs.Sound.{Sound, Slot, Leads, itself, allLevels}
 use Rattle.rule.proofs.GoDown.{Down}
 use Rattle.rule.proofs.Standing.{Stands, Distinct}
@@ -69,11 +70,11 @@ pub record Room (c : List ℕ) (cell : ℕ) : Type 0 where
 unfoldable pub taken : List ℕ → ℕ → Pair → List ℕ
 taken c cell p = let s = freeOf c in set (set (putLinks (putPair c s p) s 0 0) 2 (rightAt c s)) cell s
 
--- on p's way down, at a place with k levels: x is met from there on exactly where it is stored; and a p that may enter can go down
--- from there, which is to have gone down from the root
-pub record Reached (c : List ℕ) (p : Pair) (k cell : ℕ) (at : Stripe) : Type 0 where
+-- on p's way down, at a place: x is met from there on exactly where it is stored; and a p that may enter can go down from there,
+-- and is inserted where it has and the count has moved
+pub record Reached (c : List ℕ) (p : Pair) (cell : ℕ) (at : Stripe) : Type 0 where
   pub inside : cell < length c
-  pub sought : Sought c k (getD c cell 0) at
-  pub same : met itself (p .x) at (treeAt c k (getD c cell 0)) ≡ hasX (p .x) (stored c)
-  pub going : Enters c p → Going c k cell at p
-  pub whole : Enters c p → (d : List ℕ) → Carried c k cell at p d → Carried c allLevels 1 rootStripe p d
+  pub sought : Sought c allLevels (getD c cell 0) at
+  pub same : met itself (p .x) at (treeAt c allLevels (getD c cell 0)) ≡ hasX (p .x) (stored c)
+  pub going : Enters c p → Going c allLevels cell at p
+  pub whole : Enters c p → (d : List ℕ) → Carried c allLevels cell at p d → set d 3 (countOf c + 1) ≡ inserted c p

@@ -56,9 +56,8 @@ fn carry(pool: &mut [u32], levels: u32, cell: usize, at: Stripe, p: Pair)
     );
 }
 
-// A place of the tree: the cell of its link, its stripe, and the levels from it down.
+// A place of the tree: the cell of its link, and its stripe.
 pub struct Place {
-    pub levels: u32,
     pub cell: usize,
     pub at: Stripe,
 }
@@ -66,46 +65,44 @@ pub struct Place {
 // The first place on p's way down that is empty, or holds p's x or a pair that p beats. Above it p changes nothing.
 pub fn place_for(pool: &[u32], p: Pair) -> Place
     requires { ⌜ Sound (now pool) ⌝ }
-    ensures { λ r. ⌜ Reached (now (pool .entry)) p (r .levels) (r .cell) (stripeOf (r .at)) ⌝ }
+    ensures { λ r. ⌜ Reached (now (pool .entry)) p (r .cell) (stripeOf (r .at)) ⌝ }
 {
-    let mut levels = Stripe::LEVELS + 1;
     let mut cell = cells::ROOT_CELL;
     let mut at = Stripe::root();
     loop {
         let slot = pool[cell];
         if slot == 0 {
-            return Place { levels, cell, at };
+            return Place { cell, at };
         }
         let q = cells::pair(pool, slot);
         if p.beats(q) {
-            return Place { levels, cell, at };
+            return Place { cell, at };
         }
         if q.x == p.x {
-            return Place { levels, cell, at };
+            return Place { cell, at };
         }
         cell = cells::link_cell(slot, at.goes_left(p.x));
         at = at.towards(p.x);
-        levels -= 1;
     }
 }
 
 // Whether p's x is stored, with whatever y: it is looked for from that place on.
 pub fn is_stored(pool: &[u32], place: Place, p: Pair) -> bool
-    requires { ⌜ Reached (now pool) p (place .levels) (place .cell) (stripeOf (place .at)) ⌝ }
+    requires { ⌜ Reached (now pool) p (place .cell) (stripeOf (place .at)) ⌝ }
     ensures { λ r. ⌜ r ≡ hasX (p .x) (stored (now (pool .entry))) ⌝ }
 {
     let cell = place.cell;
     let at = place.at;
-    halving::met(pool, place.levels, pool[cell], at, p.x)
+    halving::met(pool, Stripe::LEVELS + 1, pool[cell], at, p.x)
 }
 
 // Stores a pair whose x is new, in a pool with a free slot: it goes down from that place.
 pub fn insert(pool: &mut [u32], place: Place, p: Pair)
-    requires { ⌜ Enters (now pool) p × Reached (now pool) p (place .levels) (place .cell) (stripeOf (place .at)) ⌝ }
+    requires { ⌜ Enters (now pool) p × Reached (now pool) p (place .cell) (stripeOf (place .at)) ⌝ }
     ensures { λ _. ⌜ now (pool .exit) ≡ inserted (now (pool .entry)) p ⌝ }
 {
     let count = cells::count(pool);
     let at = place.at;
-    carry(pool, place.levels - 1, place.cell, at, p);
+    carry(pool, Stripe::LEVELS, place.cell, at, p);
     cells::put_count(pool, count + 1);
 }

@@ -1,27 +1,24 @@
 -- The pair goes down from the place, and then the count moves.
-use mathlib.Core.Path.{refl}
-use native.Mathlib.Omega.{arith}
-use Rattle.down.proofs.Carrying.{going-some, going-suc, carried-suc}
-use Rattle.down.proofs.Entering.{entered}
+use mathlib.Core.Path.{_∙_}
 use borrow.Author.Needs.{needs}
 use Rattle.down.proofs.insert.Statement.{statement}
 use Rattle.down.proofs.insert.Tie as tie
 
-sub-carry : tie.Need-sub-carry
-sub-carry c = let d = going-some (c .before .before .before .before .before .before .pre .1 .going (c .before .before .before .before .before .before .pre .0)) in omega arith
-
 carry-requires : tie.Need-carry-requires
-carry-requires c κs = going-suc (c .before .before .before .before .before .before .pre .1 .going (c .before .before .before .before .before .before .pre .0))
+carry-requires c κs =
+    let p5 = c .before .before .before .before .before in
+    p5 .pre .1 .going (p5 .pre .0)
 
 returns : tie.Need-returns
-returns c = entered (c .before .before .before .before .before .before .before .before .before .before .before .before .before .pre .0) (omega arith) refl (c .before .before .before .before .before .before .before .before .before .before .before .before .before .pre .1 .whole (c .before .before .before .before .before .before .before .before .before .before .before .before .before .pre .0) _ (carried-suc (c .before .before .before .before .before .before .before .before .before .before .before .before .before .pre .1 .going (c .before .before .before .before .before .before .before .before .before .before .before .before .before .pre .0)) (c .before .before .before .before .before .before .carry .ensures))) (c .before .before .before .before .before .before .before .before .before .before .count .ensures) (c .before .before .put-count .ensures)
+returns c =
+    let p2 = c .before .before in let p6 = p2 .before .before .before .before in let p9 = p6 .before .before .before in let p12 = p9 .before .before .before in
+    p2 .put-count .ensures ∙ rw (p9 .count .ensures) (p12 .pre .1 .whole (p12 .pre .0) _ (p6 .carry .ensures))
 
 pub insert-spec : {M : Type 1} → statement M
 insert-spec =
     tie.close
     (tie.spec
     (λ c κs. search needs)
-    sub-carry
     carry-requires
     (λ c. search needs)
     (λ c κs. search needs)

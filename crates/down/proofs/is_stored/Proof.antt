@@ -19,4 +19,4 @@ returns c =
     c .met .ensures ∙ p4 .pre .same
 
 pub is-stored-spec : {M : Type 1} → statement M
-is-stored-spec = tie.close (tie.spec mul-met shared-slice-read-met met-requires returns)
+is-stored-spec = tie.close (tie.spec (λ c. search needs) mul-met shared-slice-read-met met-requires returns)

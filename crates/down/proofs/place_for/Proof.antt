@@ -1,18 +1,23 @@
--- The invariant: x is met from the place on where it is stored, and to go down from there is to have gone down from the root.
+-- The invariant: x is met from the place on where it is stored, and to go down from there is to have gone down from the root. The
+-- tree from the place down gets smaller.
 use native.Mathlib.Omega.{arith}
+use lib.ListN.{getD}
+use Rattle.rule.specs.Cells.{treeAt}
 use Rattle.rule.specs.Shape.{stripeOf}
-use Rattle.halving.proofs.Searching.{there, deep}
+use Rattle.rule.specs.Sound.{allLevels}
+use Rattle.rule.specs.Tree.{size}
+use Rattle.halving.proofs.Searching.{there}
 use Rattle.down.specs.Down.{Reached}
-use Rattle.down.proofs.Entering.{reached-root, reached-on}
+use Rattle.down.proofs.Entering.{reached-root, reached-on, fewer}
 use borrow.Author.Needs.{needs}
 use Rattle.down.proofs.place_for.Statement.{statement}
 use Rattle.down.proofs.place_for.Tie as tie
 
 abbrev Inv-loop : tie.InvT-loop
-Inv-loop pool p levels₀ cell₀ at₀ levels cell at = Reached pool p levels cell (stripeOf at)
+Inv-loop pool p cell₀ at₀ cell at = Reached pool p cell (stripeOf at)
 
 abbrev μ-loop : tie.MeasureT-loop
-μ-loop pool p levels₀ cell₀ at₀ levels cell at = levels
+μ-loop pool p cell₀ at₀ cell at = size (treeAt pool allLevels (getD pool cell 0))
 
 loop-holds : tie.Need-loop-holds Inv-loop μ-loop
 loop-holds c = reached-root (c .before .before .pre) (omega arith) (c .root .ensures)
@@ -43,11 +48,10 @@ goes-left-requires c κs = c .before .before .before .before .before .before .be
 towards-requires : tie.Need-towards-requires Inv-loop μ-loop
 towards-requires c κs = c .before .before .before .before .before .before .before .before .before .before .loop .inv .sought .low
 
-sub-levels : tie.Need-sub-levels Inv-loop μ-loop
-sub-levels c = let d = deep _ _ _ _ 0 (c .before .before .before .before .before .before .before .before .before .before .before .loop .inv .sought) (c .before .before .before .before .before .before .before .before .before .if1 .left) in omega arith
-
 loop-less : tie.Need-loop-less Inv-loop μ-loop
-loop-less c = let d = deep _ _ _ _ 0 (c .before .before .before .before .before .before .before .before .before .before .before .loop .inv .sought) (c .before .before .before .before .before .before .before .before .before .if1 .left) in omega arith
+loop-less c =
+    let p1 = c .before in let p2 = p1 .before in let p3 = p2 .before in let p6 = p3 .before .before .before in let p7 = p6 .before in let p8 = p7 .before in let p9 = p8 .before in let p11 = p9 .before .before in
+    fewer (p11 .loop .inv) (p9 .if1 .left) (p8 .pair .ensures) (p3 .if3 .left) (p7 .beats .ensures) (p6 .if2 .left) (p2 .goes-left .ensures) (p1 .link-cell .ensures) (c .towards .ensures)
 
 loop-again : tie.Need-loop-again Inv-loop μ-loop
 loop-again c =
@@ -60,7 +64,6 @@ place-for-spec =
     (tie.spec
     Inv-loop
     μ-loop
-    (λ c. search needs)
     (λ c κs. search needs)
     loop-holds
     mul-slot
@@ -73,6 +76,5 @@ place-for-spec =
     goes-left-requires
     (λ c κs. search needs)
     towards-requires
-    sub-levels
     loop-less
     loop-again)
