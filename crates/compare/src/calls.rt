@@ -33,7 +33,7 @@ pub fn ask(cells: &[u32], asked: Call) -> Answer {
 pub fn list(cells: &[u32], out: &mut [u32], asked: Call) -> Answer {
     let kind = asked.kind;
     match kind {
-        call::LISTING => pool::listing(cells, out, asked.a, asked.b, asked.c),
+        call::LISTING => pool::listing(cells, asked.a, asked.b, asked.c, out),
         call::LIST_COVERS => strips::list_covers(cells, asked.a, out),
         call::LIST_MEETS => strips::list_meets(cells, asked.a, asked.b, out),
         _ => strips::list_contains(cells, asked.a, asked.b, out),

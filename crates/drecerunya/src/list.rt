@@ -17,7 +17,7 @@ pub extern "C" fn drecerunya_listing(
 ) -> u32
     ensures { λ r. ⌜ LeavesTold (listingLeft (now (pool .entry)) (limits x0 x1 y1) (now (out .entry))) (now (out .exit)) (now (answer .exit)) r ⌝ }
 {
-    tell::tell(pool::listing(pool, out, x0, x1, y1), answer)
+    tell::tell(pool::listing(pool, x0, x1, y1, out), answer)
 }
 
 // The strips that cover slot u.

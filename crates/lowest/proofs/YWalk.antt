@@ -32,7 +32,7 @@ module _ (c : List ℕ) (l r : ℕ) where
   lower-second e o = record { found = rw (found-none c l e); some = o }
 
   pub lower-first : r ≡ 0 → Some c l → Lower c l r l
-  lower-first e o = record { found = rw (found-none c r e) (sym (closest-nothing (λ p. true) lowerY (foundAt c l))); some = o }
+  lower-first e o = record { found = rw (found-none c r e) (sym (closest-nothing lowerY (foundAt c l))); some = o }
 
   module _ (hl : l ≡ 0 → ⊥) (hr : r ≡ 0 → ⊥) (p q : Pair) (ep : p ≡ pairAt c l) (eq : q ≡ pairAt c r) where
     pub second-lower : q .y < p .y → Some c r → Lower c l r r

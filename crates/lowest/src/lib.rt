@@ -1,30 +1,19 @@
 // Smallest y over a sound pool.
 use questions::found_at;
+use questions::in_range;
 use rule::Finding;
-use rule::Pair;
 use rule::Stripe;
 use rule::Walked;
 ghost use mathlib.Core.Path.{_≡_};
 ghost use Prim.Native.Nat.{suc, _≤_};
 ghost use lib.Dec.{ltb, leb};
 ghost use Rattle.rule.specs.Cells.{rootOf, treeAt};
-ghost use Rattle.rule.specs.Plain.{inRange};
 ghost use Rattle.rule.specs.Shape.{stripeOf};
 ghost use Rattle.rule.specs.Sound.{Sound, allLevels};
 ghost use Rattle.rule.specs.Stripe.{rootStripe, middle, leftPart, rightPart};
 ghost use Rattle.rule.specs.Walks.{smallestY, ask};
 ghost use Rattle.questions.specs.Walking.{Some, Asked, Made};
 ghost use Rattle.lowest.specs.Sons.{Lower, asks, lowerOf, Asked-sons};
-
-// Whether the pair's x is in range.
-fn in_range(p: Pair, x0: u32, x1: u32) -> bool
-    ensures { λ r. ⌜ r ≡ inRange x0 x1 p ⌝ }
-{
-    if p.x < x0 {
-        return false;
-    }
-    p.x <= x1
-}
 
 // Whether a son is asked: it is there, and its side is asked.
 fn asks(son: u32, go: bool) -> bool

@@ -44,7 +44,7 @@ since-end closer f v = same refl (omega arith)
 
 -- law: at its start it is all that is asked
 pub since-start : (closer : Pair → Pair → Bool) (w : Walked) → since closer Nothing 0 w ≡ w
-since-start closer w = same (closest-nothing (λ p. true) closer (w .finding)) (omega arith)
+since-start closer w = same (closest-nothing closer (w .finding)) (omega arith)
 
 module _ (q : Limits) (closer : Pair → Pair → Bool) (p : Pair) (a b rest : Walked) (f : Finding) (v : ℕ) where
   -- law: a slot whose y is too high gives nothing, at one visit

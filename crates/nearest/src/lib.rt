@@ -1,14 +1,14 @@
 // Smallest and largest x over a sound pool, each the other's mirror: a loop, with the second sons that wait in rows. A place waits
 // for a slot above whose first son has given nothing so far; slot 0 is an empty place, where the one that came last is next.
 use questions::found_at;
-use rule::Pair;
+use questions::in_range;
 use rule::Stripe;
 use rule::Walked;
 ghost use mathlib.Core.Path.{_≡_};
 ghost use mathlib.Core.Bool.{cond};
 ghost use Prim.Native.Nat.{_≤_};
 ghost use Rattle.rule.specs.Cells.{Fits, rootOf, treeAt};
-ghost use Rattle.rule.specs.Plain.{limits, inRange, smaller, larger};
+ghost use Rattle.rule.specs.Plain.{limits, smaller, larger};
 ghost use Rattle.rule.specs.Shape.{stripeOf};
 ghost use Rattle.rule.specs.Sound.{Sound, allLevels};
 ghost use Rattle.rule.specs.Stripe.{Low, rootStripe};
@@ -19,16 +19,6 @@ ghost use Rattle.nearest.specs.Asking.{leftAsked, rightAsked};
 
 // Room for the places that wait: at most one for each level below the root.
 const ROOM: usize = 32;
-
-// Whether the pair's x is in range.
-fn in_range(p: Pair, x0: u32, x1: u32) -> bool
-    ensures { λ r. ⌜ r ≡ inRange x0 x1 p ⌝ }
-{
-    if p.x < x0 {
-        return false;
-    }
-    p.x <= x1
-}
 
 // The slot's own pair, if it is a hit, unless what was found so far is smaller.
 fn smaller_of(pool: &[u32], hit: bool, slot: u32, best: u32) -> u32

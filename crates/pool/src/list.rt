@@ -23,7 +23,7 @@ fn listed(l: Listing) -> Answer
     }
 }
 
-fn listing_sound(pool: &[u32], out: &mut [u32], x0: u32, x1: u32, y1: u32) -> Answer
+fn listing_sound(pool: &[u32], x0: u32, x1: u32, y1: u32, out: &mut [u32]) -> Answer
     requires { ⌜ Sound (now pool) ⌝ }
     ensures { λ r. ⌜ Leaves (listingLeft (now (pool .entry)) (limits x0 x1 y1) (now (out .entry))) (now (out .exit)) r ⌝ }
 {
@@ -35,12 +35,12 @@ fn listing_sound(pool: &[u32], out: &mut [u32], x0: u32, x1: u32, y1: u32) -> An
 }
 
 // The pairs with x0 ≤ x ≤ x1 and y ≤ y1, two cells each from the slice's start, as many as it has room for.
-pub fn listing(pool: &[u32], out: &mut [u32], x0: u32, x1: u32, y1: u32) -> Answer
+pub fn listing(pool: &[u32], x0: u32, x1: u32, y1: u32, out: &mut [u32]) -> Answer
     ensures { λ r. ⌜ Leaves (listingLeft (now (pool .entry)) (limits x0 x1 y1) (now (out .entry))) (now (out .exit)) r ⌝ }
 {
     let h = sound::health_of(pool);
     match h {
-        Health::Sound => listing_sound(pool, out, x0, x1, y1),
+        Health::Sound => listing_sound(pool, x0, x1, y1, out),
         Health::Unsound => sound::refused(codes::UNSOUND),
         Health::WrongLength => sound::refused(codes::LENGTH),
     }

@@ -57,11 +57,11 @@ pub data Sat (P : Pair → Type 0) : Finding → Type 0 where
   sat-one : {p : Pair} → P p → Sat P (Found p)
 
 -- what holds whatever `closer` is
-module _ (ok : Pair → Bool) (closer : Pair → Pair → Bool) where
-  pub closest-nothing : (f : Finding) → closest closer f Nothing ≡ f
-  closest-nothing Nothing = refl
-  closest-nothing (Found p) = refl
+pub closest-nothing : (closer : Pair → Pair → Bool) (f : Finding) → closest closer f Nothing ≡ f
+closest-nothing closer Nothing = refl
+closest-nothing closer (Found p) = refl
 
+module _ (ok : Pair → Bool) (closer : Pair → Pair → Bool) where
   pub scan-append : (f : Finding) (u v : List Pair) → scan ok closer f (u ++ v) ≡ scan ok closer (scan ok closer f u) v
   scan-append f [] v = refl
   scan-append f (p ∷ u) v = scan-append (closest closer f (own ok p)) u v
@@ -90,11 +90,11 @@ module _ (ok : Pair → Bool) (closer : Pair → Pair → Bool) where
 
   pub closest-swap : (p : Pair) {f : Finding} → Sat (λ q. closer q p ≡ not (closer p q)) f
       → closest closer f (own ok p) ≡ closest closer (own ok p) f
-  closest-swap p sat-none = sym (closest-nothing _)
+  closest-swap p sat-none = sym (closest-nothing closer _)
   closest-swap p (sat-one {p = q} h) = on (ok p) (λ o. rw o (on (closer p q) (λ e. rw (h, e)) (λ e. rw (h, e)))) (λ o. rw o)
 
   pub closest-comm : {f g : Finding} → Sat (λ v. Sat (λ w. closer w v ≡ not (closer v w)) g) f → closest closer f g ≡ closest closer g f
-  closest-comm sat-none = sym (closest-nothing _)
+  closest-comm sat-none = sym (closest-nothing closer _)
   closest-comm (sat-one sat-none) = refl
   closest-comm (sat-one {p = v} (sat-one {p = w} h)) = on (closer v w) (λ e. rw (h, e)) (λ e. rw (h, e))
 
@@ -109,7 +109,7 @@ module _ (ok : Pair → Bool) {closer : Pair → Pair → Bool} (R : Ranks close
   pub closest-assoc : (f g h : Finding) → closest closer (closest closer f g) h ≡ closest closer f (closest closer g h)
   closest-assoc Nothing g h = refl
   closest-assoc (Found p) Nothing h = refl
-  closest-assoc (Found p) (Found q) Nothing = closest-nothing ok closer (closest closer (Found p) (Found q))
+  closest-assoc (Found p) (Found q) Nothing = closest-nothing closer (closest closer (Found p) (Found q))
   closest-assoc (Found p) (Found q) (Found r) = go (test (closer q p)) (test (closer r q))
     where
       go : (closer q p ≡ true) ⊎ (closer q p ≡ false) → (closer r q ≡ true) ⊎ (closer r q ≡ false)
@@ -120,7 +120,7 @@ module _ (ok : Pair → Bool) {closer : Pair → Pair → Bool} (R : Ranks close
       go (inr a) (inr b) = rw (a, b, a, R .down p q r b a)
 
   scan-from : (f : Finding) (t : Tree Pair) → scan ok closer f (members t) ≡ closest closer f (best ok closer t)
-  scan-from f none = sym (closest-nothing ok closer f)
+  scan-from f none = sym (closest-nothing closer f)
   scan-from f (fork s p l r) =
       let o = own ok p in
       let b = best ok closer l in

@@ -40,7 +40,7 @@ on-cons P h k q (List·Memᴰ·tail m) = k q m
 
 module _ (ok : Pair → Bool) {closer : Pair → Pair → Bool} (R : Ranks closer) where
   scan-split : (f : Finding) (ps : List Pair) → scan ok closer f ps ≡ closest closer f (scan ok closer Nothing ps)
-  scan-split f [] = sym (closest-nothing ok closer f)
+  scan-split f [] = sym (closest-nothing closer f)
   scan-split f (q ∷ ps) = scan-split (closest closer f (own ok q)) ps
       ∙ (closest-assoc ok R f (own ok q) (scan ok closer Nothing ps) ∙ ap (closest closer f) (sym (scan-split (own ok q) ps)))
 

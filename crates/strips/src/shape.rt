@@ -48,10 +48,10 @@ pub fn no_strip(start: u32, end: u32, number: u32) -> bool
 }
 
 // The refusal by a code that stands behind the pool's length and soundness.
-pub fn refuse(cells: &[u32], code: u32) -> Answer
-    ensures { λ r. ⌜ r ≡ answerBy (lengthLine (now (cells .entry)) ∷ soundLine (now (cells .entry)) ∷ []) (refusal code) ⌝ }
+pub fn refuse(pool: &[u32], code: u32) -> Answer
+    ensures { λ r. ⌜ r ≡ answerBy (lengthLine (now (pool .entry)) ∷ soundLine (now (pool .entry)) ∷ []) (refusal code) ⌝ }
 {
-    let h = sound::health_of(cells);
+    let h = sound::health_of(pool);
     match h {
         Health::Sound => sound::refused(code),
         Health::Unsound => sound::refused(codes::UNSOUND),

@@ -16,7 +16,7 @@ use Rattle.cells.proofs.left.Reads as left-reads
 use Rattle.cells.proofs.pair.Reads as pair-reads
 use Rattle.cells.proofs.right.Reads as right-reads
 use Rattle.lowest.proofs.asks.Reads as asks-reads
-use Rattle.lowest.proofs.in_range.Reads as in-range-reads
+use Rattle.questions.proofs.in_range.Reads as in-range-reads
 use Rattle.lowest.proofs.lower.Reads as lower-reads
 use Rattle.rule.proofs.Stripe.goes_left.Reads as goes-left-reads
 use Rattle.rule.proofs.Stripe.left.Reads as Stripe-left-reads

@@ -10,10 +10,10 @@ returns c =
     close-refused _ _ _ _ _ (p3 .no-strip .ensures) (p2 .if1 .taken) (c .refuse .ensures)
 
 mul-delete : tie.Need-mul-delete
-mul-delete c = let f = strip-fits (c .before .before .before .before .args .cells .now) (c .before .before .before .before .args .start) (c .before .before .before .before .args .end) (c .before .before .before .before .args .number) _ (c .before .before .no-strip .ensures) (c .before .if1 .left) in search needs
+mul-delete c = let f = strip-fits (c .before .before .before .before .args .pool .now) (c .before .before .before .before .args .start) (c .before .before .before .before .args .end) (c .before .before .before .before .args .number) _ (c .before .before .no-strip .ensures) (c .before .if1 .left) in search needs
 
 add-delete : tie.Need-add-delete
-add-delete c = let f = strip-fits (c .before .before .before .before .args .cells .now) (c .before .before .before .before .args .start) (c .before .before .before .before .args .end) (c .before .before .before .before .args .number) _ (c .before .before .no-strip .ensures) (c .before .if1 .left) in search needs
+add-delete c = let f = strip-fits (c .before .before .before .before .args .pool .now) (c .before .before .before .before .args .start) (c .before .before .before .before .args .end) (c .before .before .before .before .args .number) _ (c .before .before .no-strip .ensures) (c .before .if1 .left) in search needs
 
 returns-2 : tie.Need-returns-2
 returns-2 c =

@@ -10,10 +10,10 @@ returns c =
     open-refused _ _ _ _ _ (p3 .no-strip .ensures) (p2 .if1 .taken) (c .refuse .ensures)
 
 mul-insert : tie.Need-mul-insert
-mul-insert c = let f = strip-fits (c .before .before .before .before .args .cells .now) (c .before .before .before .before .args .start) (c .before .before .before .before .args .end) (c .before .before .before .before .args .number) _ (c .before .before .no-strip .ensures) (c .before .if1 .left) in search needs
+mul-insert c = let f = strip-fits (c .before .before .before .before .args .pool .now) (c .before .before .before .before .args .start) (c .before .before .before .before .args .end) (c .before .before .before .before .args .number) _ (c .before .before .no-strip .ensures) (c .before .if1 .left) in search needs
 
 add-insert : tie.Need-add-insert
-add-insert c = let f = strip-fits (c .before .before .before .before .args .cells .now) (c .before .before .before .before .args .start) (c .before .before .before .before .args .end) (c .before .before .before .before .args .number) _ (c .before .before .no-strip .ensures) (c .before .if1 .left) in search needs
+add-insert c = let f = strip-fits (c .before .before .before .before .args .pool .now) (c .before .before .before .before .args .start) (c .before .before .before .before .args .end) (c .before .before .before .before .args .number) _ (c .before .before .no-strip .ensures) (c .before .if1 .left) in search needs
 
 returns-2 : tie.Need-returns-2
 returns-2 c =

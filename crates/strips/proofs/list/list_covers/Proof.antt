@@ -10,7 +10,9 @@ returns c =
     covers-refused _ _ _ _ (p2 .over .ensures) (p1 .if1 .taken) (c .refuse .ensures)
 
 mul-listing : tie.Need-mul-listing
-mul-listing c = let f = slot-fits (c .before .before .before .before .before .args .u) _ (c .before .before .over .ensures) (c .before .if1 .left) in search needs
+mul-listing c =
+    let p1 = c .before in
+    let f = slot-fits (p1 .before .before .before .args .u) _ (p1 .over .ensures) (c .if1 .left) in search needs
 
 returns-2 : tie.Need-returns-2
 returns-2 c =

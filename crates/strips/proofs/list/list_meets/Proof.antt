@@ -15,7 +15,9 @@ returns-2 c =
     meets-backwards _ _ _ _ _ (p3 .either-over .ensures) (p2 .if1 .left) (p1 .if2 .taken) (c .refuse2 .ensures)
 
 mul-listing : tie.Need-mul-listing
-mul-listing c = let f = slots-fit (c .before .before .before .before .before .before .args .u) (c .before .before .before .before .before .before .args .v) _ (c .before .before .before .either-over .ensures) (c .before .before .if1 .left) in search needs
+mul-listing c =
+    let p1 = c .before in let p2 = p1 .before in let p5 = p2 .before .before .before in
+    let f = slots-fit (p5 .args .u) (p5 .args .v) _ (p2 .either-over .ensures) (p1 .if1 .left) in search needs
 
 returns-3 : tie.Need-returns-3
 returns-3 c =

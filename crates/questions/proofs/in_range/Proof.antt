@@ -1,7 +1,7 @@
 -- Each way out is one test.
 use borrow.Author.Tests.{lt-leb, le-leb}
-use Rattle.nearest.proofs.in_range.Statement.{statement}
-use Rattle.nearest.proofs.in_range.Tie as tie
+use Rattle.questions.proofs.in_range.Statement.{statement}
+use Rattle.questions.proofs.in_range.Tie as tie
 
 returns : tie.Need-returns
 returns c = rw (lt-leb _ _ (c .if1 .taken))
