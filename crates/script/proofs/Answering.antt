@@ -14,12 +14,12 @@ use Rattle.rule.specs.Answer.{five}
 use Rattle.rule.specs.Codes as codes
 use Rattle.rule.specs.Refusals.{Left, Leaves}
 use Rattle.rule.proofs.Placing.{placed-start}
-use Rattle.script.specs.declared.Asked.{Asked}
-use Rattle.script.specs.declared.Asked.the-variants.{Open, Close, First, Last, Covers, Malformed}
+use Rattle.line.specs.declared.Asked.{Asked}
+use Rattle.line.specs.declared.Asked.the-variants.{Open, Close, First, Last, Covers, Malformed}
 use Rattle.strips.specs.Promises.{opening, closing, firstToEnd, lastToEnd, listCovers}
 use Rattle.script.specs.declared.Told.{Told}
 use Rattle.script.specs.declared.Told.the-variants.{Bytes, Short}
-use Rattle.script.specs.Line.{space, askedBy}
+use Rattle.line.specs.Line.{space, askedBy}
 use Rattle.script.specs.Text.{newline, item, row}
 use Rattle.script.specs.Script.{codeRow, foundRow, matchRows, listRows, changed, found, doneBy, tooShort, lineAnswered, Answers}
 use Rattle.script.specs.Writing.{Puts, Prints, stripItems}

@@ -9,11 +9,11 @@ use lib.Dec.{leb, eqb}
 use lib.ListN.{length, getD, length-append}
 use borrow.Author.Tests.{le-leb, lt-ltb, ne-eqb, eqb-true, eqb-false, leb-true, not-true}
 use Rattle.rule.proofs.Tests.{on, clash, both, all-four, and-true, and-false}
-use Rattle.script.specs.Line.{isDigit, allDigits, valueFrom, value, leadingZero, isNumber}
+use Rattle.line.specs.Line.{isDigit, allDigits, valueFrom, value, leadingZero, isNumber}
 use Rattle.script.specs.Text.{glyph, front, decimal}
-use Rattle.script.proofs.Numbers.{most, digit-range, value-grows}
+use Rattle.line.proofs.Digits.{most, digit-range, value-grows}
 use Rattle.script.proofs.Printing.{front-zero, front-step, append-none}
-use Rattle.script.proofs.Words.{append-one}
+use Rattle.line.proofs.Words.{append-one}
 
 value-snoc : (n : ℕ) (w : List ℕ) (b : ℕ) → valueFrom n (w ++ (b ∷ [])) ≡ valueFrom n w * 10 + (b - 48)
 unfolding valueFrom

@@ -1,7 +1,4 @@
--- The laws on lines, words and numbers, and on what is printed.
-pub mod Numbers
-pub mod Words
-pub mod Lines
+-- The laws on what is printed, and on the line that asks for something.
 pub mod Printing
 pub mod Answering
 pub mod Promised

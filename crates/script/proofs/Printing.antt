@@ -9,7 +9,7 @@ use Rattle.rule.specs.Placed.{placed}
 use Rattle.rule.proofs.Placing.{length-placed, placed-append}
 use Rattle.rule.proofs.Tests.{on}
 use lib.Dec.{eqb}
-use Rattle.script.specs.Line.{space}
+use Rattle.line.specs.Line.{space}
 use Rattle.script.specs.Text.{newline, glyph, front, decimal, item, row}
 use Rattle.script.specs.Script.{matchRows}
 use Rattle.script.specs.Writing.{Puts, stripItems}

@@ -8,14 +8,14 @@ use lib.Dec.{eqb, ltb}
 use lib.ListN.{length, length-append}
 use borrow.Author.Tests.{eqb-true, eqb-false, ne-eqb, le-ltb}
 use Rattle.rule.proofs.Tests.{on, both, and-true}
-use Rattle.script.specs.declared.Asked.{Asked}
-use Rattle.script.specs.declared.Asked.the-variants.{Open, Close, First, Last, Covers, Malformed}
-use Rattle.script.specs.Line.{space, led, words, isDigit, allDigits, value, isNumber, allNumbers, meant, byWords, askedBy}
+use Rattle.line.specs.declared.Asked.{Asked}
+use Rattle.line.specs.declared.Asked.the-variants.{Open, Close, First, Last, Covers, Malformed}
+use Rattle.line.specs.Line.{space, led, words, isDigit, allDigits, value, isNumber, allNumbers, meant, byWords, askedBy}
 use Rattle.script.specs.Text.{decimal}
 use Rattle.script.specs.Spelled.{spaced, numbersOf, spelled}
-use Rattle.script.proofs.Numbers.{most, digit-range}
+use Rattle.line.proofs.Digits.{most, digit-range}
 use Rattle.script.proofs.Printing.{item-few, append-none}
-use Rattle.script.proofs.Words.{some-word}
+use Rattle.line.proofs.Words.{some-word}
 use Rattle.script.proofs.Decimal.{decimal-value, decimal-number, decimal-digits, number-decimal}
 
 -- every number is one of 32 bits

@@ -10,11 +10,11 @@ use Rattle.rule.specs.Answer.{five}
 use Rattle.rule.specs.Codes as codes
 use Rattle.rule.specs.Refusals.{Left}
 use Rattle.strips.specs.Promises.{opening, closing, firstToEnd, lastToEnd, listCovers}
-use Rattle.script.specs.declared.Asked.{Asked}
-use Rattle.script.specs.declared.Asked.the-variants.{Open, Close, First, Last, Covers, Malformed}
+use Rattle.line.specs.declared.Asked.{Asked}
+use Rattle.line.specs.declared.Asked.the-variants.{Open, Close, First, Last, Covers, Malformed}
 use Rattle.script.specs.declared.Told.{Told}
 use Rattle.script.specs.declared.Told.the-variants.{Bytes, Short}
-use Rattle.script.specs.Line.{askedBy}
+use Rattle.line.specs.Line.{askedBy}
 use Rattle.script.specs.Text.{row}
 
 -- the pool's cells and the listing room after a line, and what it prints

@@ -1,9 +1,9 @@
 -- The line that asks for something: its letter, and its numbers in decimal after single spaces.
 use Prim.Native.Nat.{ℕ}
 use mathlib.Core.List.{List, [], _∷_, _++_}
-use Rattle.script.specs.declared.Asked.{Asked}
-use Rattle.script.specs.declared.Asked.the-variants.{Open, Close, First, Last, Covers, Malformed}
-use Rattle.script.specs.Line.{space}
+use Rattle.line.specs.declared.Asked.{Asked}
+use Rattle.line.specs.declared.Asked.the-variants.{Open, Close, First, Last, Covers, Malformed}
+use Rattle.line.specs.Line.{space}
 use Rattle.script.specs.Text.{decimal}
 
 -- each number after a space

@@ -3,7 +3,7 @@ use Prim.Native.Nat.{ℕ, zero, suc, _+_, _/_, _%_}
 use mathlib.Core.Bool.{cond}
 use mathlib.Core.List.{List, [], _∷_, _++_}
 use lib.Dec.{eqb}
-use Rattle.script.specs.Line.{space}
+use Rattle.line.specs.Line.{space}
 
 -- the byte of a newline
 abbrev pub newline : ℕ

@@ -4,7 +4,7 @@ use mathlib.Core.Path.{_≡_}
 use mathlib.Core.List.{List, _++_}
 use lib.ListN.{length}
 use Rattle.rule.specs.Placed.{placed}
-use Rattle.script.specs.Line.{space}
+use Rattle.line.specs.Line.{space}
 use Rattle.script.specs.Text.{item}
 use Rattle.script.specs.Script.{Done}
 

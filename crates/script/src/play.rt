@@ -1,8 +1,7 @@
 // A line is read, done and answered.
-use super::Asked;
 use super::Told;
-use super::line;
 use super::text;
+use line::Asked;
 use rule::Answer;
 use rule::codes;
 ghost use Prim.Native.Nat.{_+_, _*_, _/_, _≤_};

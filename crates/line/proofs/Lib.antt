@@ -1,0 +1,4 @@
+-- The laws on digits, words and lines that the proofs of the reading cite.
+pub mod Digits
+pub mod Words
+pub mod Lines

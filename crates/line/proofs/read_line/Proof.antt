@@ -1,0 +1,41 @@
+-- The first two bytes decide what the first word is.
+use mathlib.Core.Path.{_∙_}
+use Rattle.line.proofs.Words.{the-rest}
+use Rattle.line.proofs.Lines.{too-long, too-few, no-space, letter-first}
+use borrow.Author.Needs.{needs}
+use Rattle.line.proofs.read_line.Statement.{statement}
+use Rattle.line.proofs.read_line.Tie as tie
+
+returns : tie.Need-returns
+returns c = too-long _ (c .if1 .taken)
+
+returns-2 : tie.Need-returns-2
+returns-2 c =
+    let p1 = c .before in
+    too-few _ (p1 .if1 .left) (c .if2 .taken)
+
+returns-3 : tie.Need-returns-3
+returns-3 c =
+    let p2 = c .before .before in let p3 = p2 .before in
+    no-space _ (p3 .if1 .left) (p2 .if2 .left) (c .if3 .taken)
+
+returns-4 : tie.Need-returns-4
+returns-4 c =
+    let p2 = c .before .before in let p4 = p2 .before .before in let p6 = p4 .before .before in let p7 = p6 .before in let p9 = p7 .before .before in
+    c .of-letter .ensures ∙ rw (p2 .numbers-in .ensures, the-rest 2 (p9 .args .line .now)) (letter-first _ (p7 .if1 .left) (p6 .if2 .left) (p4 .if3 .left))
+
+pub read-line-spec : {M : Type 1} → statement M
+read-line-spec =
+    tie.close
+    (tie.spec
+    returns
+    returns-2
+    (λ c. search needs)
+    returns-3
+    (λ c. search needs)
+    (λ c. search needs)
+    (λ c. search needs)
+    (λ c κs. search needs)
+    (λ c. search needs)
+    (λ c κs. search needs)
+    returns-4)
