@@ -14,16 +14,17 @@ use Rattle.rule.specs.Answer.{five}
 use Rattle.rule.specs.Codes as codes
 use Rattle.rule.specs.Refusals.{Left, Leaves}
 use Rattle.rule.proofs.Placing.{placed-start}
+use Rattle.strips.specs.Promises.{opening, closing, firstToEnd, lastToEnd, listCovers}
 use Rattle.line.specs.declared.Asked.{Asked}
 use Rattle.line.specs.declared.Asked.the-variants.{Open, Close, First, Last, Covers, Malformed}
-use Rattle.strips.specs.Promises.{opening, closing, firstToEnd, lastToEnd, listCovers}
+use Rattle.line.specs.Line.{space, askedBy}
+use Rattle.text.specs.Text.{newline, item, row, matchRows}
+use Rattle.text.specs.Writing.{Puts, stripItems}
+use Rattle.text.proofs.Printing.{puts-then, item-few, rows-few, append-assoc}
 use Rattle.script.specs.declared.Told.{Told}
 use Rattle.script.specs.declared.Told.the-variants.{Bytes, Short}
-use Rattle.line.specs.Line.{space, askedBy}
-use Rattle.script.specs.Text.{newline, item, row}
-use Rattle.script.specs.Script.{codeRow, foundRow, matchRows, listRows, changed, found, doneBy, tooShort, lineAnswered, Answers}
-use Rattle.script.specs.Writing.{Puts, Prints, stripItems}
-use Rattle.script.proofs.Printing.{puts-then, item-few, rows-few, append-assoc}
+use Rattle.script.specs.Script.{codeRow, foundRow, listRows, changed, found, doneBy, tooShort, lineAnswered, Answers}
+use Rattle.script.specs.Writing.{Prints}
 
 -- law: what may be too short
 pub few-bytes : (room o : ℕ) → o < 55 → true ≡ ltb o (55 + 33 * (room / 2))

@@ -1,6 +1,4 @@
--- The laws on what is printed, and on the line that asks for something.
-pub mod Printing
+-- The laws on what a line prints, and on the line that asks for something.
 pub mod Answering
 pub mod Promised
-pub mod Decimal
 pub mod Spelling

@@ -1,5 +1,5 @@
 -- What a line does to the pool and to the listing room, and what it prints.
-use Prim.Native.Nat.{ℕ, zero, suc, _+_, _*_, _/_, _%_}
+use Prim.Native.Nat.{ℕ, _+_, _*_, _/_, _%_}
 use mathlib.Core.Path.{_≡_}
 use mathlib.Core.Bool.{Bool, cond}
 use mathlib.Core.List.{List, [], _∷_, _++_}
@@ -12,10 +12,10 @@ use Rattle.rule.specs.Refusals.{Left}
 use Rattle.strips.specs.Promises.{opening, closing, firstToEnd, lastToEnd, listCovers}
 use Rattle.line.specs.declared.Asked.{Asked}
 use Rattle.line.specs.declared.Asked.the-variants.{Open, Close, First, Last, Covers, Malformed}
+use Rattle.line.specs.Line.{askedBy}
+use Rattle.text.specs.Text.{row, matchRows}
 use Rattle.script.specs.declared.Told.{Told}
 use Rattle.script.specs.declared.Told.the-variants.{Bytes, Short}
-use Rattle.line.specs.Line.{askedBy}
-use Rattle.script.specs.Text.{row}
 
 -- the pool's cells and the listing room after a line, and what it prints
 pub record Done : Type 0 where
@@ -34,13 +34,6 @@ foundRow a = row (five a .code ∷ five a .x / 65536 ∷ five a .x % 65536 ∷ f
 -- code, count, visits
 abbrev pub countRow : Answer → List ℕ
 countRow a = row (five a .code ∷ five a .count ∷ five a .visits ∷ [])
-
--- a line of end, number, start for each of the first so many matches of a listing's cells
-unfoldable pub matchRows : ℕ → List ℕ → List ℕ
-matchRows zero cells = []
-matchRows (suc n) [] = []
-matchRows (suc n) (x ∷ []) = []
-matchRows (suc n) (x ∷ y ∷ cells) = row (x / 65536 ∷ x % 65536 ∷ y ∷ []) ++ matchRows n cells
 
 -- the count, and a line for each match
 abbrev pub listRows : Answer → List ℕ → List ℕ

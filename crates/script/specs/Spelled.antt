@@ -4,7 +4,7 @@ use mathlib.Core.List.{List, [], _∷_, _++_}
 use Rattle.line.specs.declared.Asked.{Asked}
 use Rattle.line.specs.declared.Asked.the-variants.{Open, Close, First, Last, Covers, Malformed}
 use Rattle.line.specs.Line.{space}
-use Rattle.script.specs.Text.{decimal}
+use Rattle.text.specs.Text.{decimal}
 
 -- each number after a space
 unfoldable pub spaced : List ℕ → List ℕ

@@ -1,17 +1,10 @@
--- How the code prints: bytes are stored one after the other, and the place behind them is answered.
-use Prim.Native.Nat.{ℕ, _+_, _/_, _%_, _≤_}
+-- How the code prints what is done.
+use Prim.Native.Nat.{ℕ, _≤_}
 use mathlib.Core.Path.{_≡_}
-use mathlib.Core.List.{List, _++_}
+use mathlib.Core.List.{List}
 use lib.ListN.{length}
-use Rattle.rule.specs.Placed.{placed}
-use Rattle.line.specs.Line.{space}
-use Rattle.script.specs.Text.{item}
+use Rattle.text.specs.Writing.{Puts}
 use Rattle.script.specs.Script.{Done}
-
--- the bytes vs were stored from place `at` on, and r is the place behind them
-pub record Puts (o : List ℕ) (at : ℕ) (vs o′ : List ℕ) (r : ℕ) : Type 0 where
-  pub bytes : o′ ≡ placed o at vs
-  pub end : r ≡ at + length vs
 
 -- what is done, printed from the first byte on within the lent bytes
 pub record Prints (d : Done) (o c room o′ : List ℕ) (r : ℕ) : Type 0 where
@@ -19,7 +12,3 @@ pub record Prints (d : Done) (o c room o′ : List ℕ) (r : ℕ) : Type 0 where
   pub listing : room ≡ d .room
   pub put : Puts o 0 (d .bytes) o′ r
   pub within : r ≤ length o
-
--- end, number, start of the pair [x, y], and the byte behind them
-abbrev pub stripItems : ℕ → ℕ → ℕ → List ℕ
-stripItems x y after = item (x / 65536) space ++ (item (x % 65536) space ++ item y after)
