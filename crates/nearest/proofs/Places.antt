@@ -27,11 +27,7 @@ module _ (c : List ℕ) where
   whole : (s : ℕ) → Leads c s (treeAt c lowLevels s) → treeAt c allLevels s ≡ treeAt c lowLevels s
   whole s o = leads-tree c allLevels o (within-more lowLevels allLevels (treeAt c lowLevels s) (omega arith) (tree-within c lowLevels s))
 
-  -- law: a son that is asked, or none
-  pub asked-tree : (go : Bool) (s : ℕ) → Leads c s (treeAt c lowLevels s) → treeAt c allLevels (cond go s 0) ≡ cond go (treeAt c lowLevels s) none
-  asked-tree true s o = whole s o
-  asked-tree false s o = tree-none c allLevels 0 refl
-
+  -- a son that is asked, or none
   asked-leads : (go : Bool) (s : ℕ) → Leads c s (treeAt c lowLevels s) → Leads c (cond go s 0) (treeAt c allLevels (cond go s 0))
   asked-leads true s o = rw (whole s o) o
   asked-leads false s o = rw (tree-none c allLevels 0 refl) nowhere

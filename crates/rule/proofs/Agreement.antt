@@ -8,7 +8,7 @@ use lib.ListN.{length, getD, set, length-set}
 use lib.Seq.{getD-set-same, getD-set-other, set-getD, ext-getD}
 use Rattle.rule.specs.declared.Pair.{Pair}
 use Rattle.rule.specs.Tree.{Tree, none, fork}
-use Rattle.rule.specs.Cells.{perSlot, slotsOf, Fits, markOf, rootOf, freeOf, countOf, pairAt, leftAt, rightAt, putHeader, putPair, putLinks, putFree, freeMark}
+use Rattle.rule.specs.Cells.{perSlot, slotsOf, Fits, pairAt, leftAt, rightAt, putHeader, putPair, putLinks, putFree, freeMark}
 use Rattle.rule.specs.Sound.{Pool, Slot, Leads, nowhere, slot, Free, Chain, ends, next}
 use Rattle.rule.specs.Laid.{top}
 use Rattle.rule.proofs.Order.{pair-ext}
@@ -28,9 +28,6 @@ agree-back h = record { pair = sym (h .pair); left = sym (h .left); right = sym 
 
 pub agree-then : {c d e : List ℕ} {s : ℕ} → Agree c d s → Agree d e s → Agree c e s
 agree-then h k = record { pair = k .pair ∙ h .pair; left = k .left ∙ h .left; right = k .right ∙ h .right }
-
-pub agree-header : {c d : List ℕ} → markOf d ≡ markOf c → rootOf d ≡ rootOf c → freeOf d ≡ freeOf c → countOf d ≡ countOf c → Agree c d 0
-agree-header m r f n = record { pair = pair-ext m r; left = f; right = n }
 
 -- agreement on a slot is agreement on its four cells
 pub agree-cell : {c d : List ℕ} {s : ℕ} → Agree c d s → (i j : ℕ) → j < perSlot → i ≡ s * perSlot + j → getD d i 0 ≡ getD c i 0

@@ -75,29 +75,29 @@ fn put_listed(output: &mut [u8], a: Answer, room: &[u32]) -> usize
 }
 
 // What is asked is done, and printed from the first byte on.
-fn perform(cells: &mut [u32], room: &mut [u32], output: &mut [u8], asked: Asked) -> usize
+fn perform(pool: &mut [u32], room: &mut [u32], output: &mut [u8], asked: Asked) -> usize
     requires { ⌜ 55 + 33 * (length (now room) / 2) ≤ length (now output) ⌝ }
-    ensures { λ r. ⌜ Prints (doneBy (now (cells .entry)) (now (room .entry)) asked) (now (output .entry)) (now (cells .exit)) (now (room .exit)) (now (output .exit)) r ⌝ }
+    ensures { λ r. ⌜ Prints (doneBy (now (pool .entry)) (now (room .entry)) asked) (now (output .entry)) (now (pool .exit)) (now (room .exit)) (now (output .exit)) r ⌝ }
 {
     match asked {
         Asked::Open { start, end, number } => {
-            let a = strips::open(cells, start, end, number);
+            let a = strips::open(pool, start, end, number);
             put_changed(output, a)
         }
         Asked::Close { start, end, number } => {
-            let a = strips::close(cells, start, end, number);
+            let a = strips::close(pool, start, end, number);
             put_changed(output, a)
         }
         Asked::First(u) => {
-            let a = strips::first_to_end(cells, u);
+            let a = strips::first_to_end(pool, u);
             put_found(output, a)
         }
         Asked::Last { u, e } => {
-            let a = strips::last_to_end(cells, u, e);
+            let a = strips::last_to_end(pool, u, e);
             put_found(output, a)
         }
         Asked::Covers(u) => {
-            let a = strips::list_covers(cells, u, room);
+            let a = strips::list_covers(pool, u, room);
             put_listed(output, a, room)
         }
         Asked::Malformed => put_code(output, codes::MALFORMED),
@@ -105,13 +105,13 @@ fn perform(cells: &mut [u32], room: &mut [u32], output: &mut [u8], asked: Asked)
 }
 
 // Does what a line asks, and prints its answer from the first byte of the output on.
-pub fn answer_line(cells: &mut [u32], room: &mut [u32], bytes: &[u8], output: &mut [u8]) -> Told
-    ensures { λ r. ⌜ Answers (lineAnswered (now (cells .entry)) (now (room .entry)) (now (bytes .entry)) (now (output .entry))) (now (cells .exit)) (now (room .exit)) (now (output .exit)) r ⌝ }
+pub fn answer_line(pool: &mut [u32], room: &mut [u32], bytes: &[u8], output: &mut [u8]) -> Told
+    ensures { λ r. ⌜ Answers (lineAnswered (now (pool .entry)) (now (room .entry)) (now (bytes .entry)) (now (output .entry))) (now (pool .exit)) (now (room .exit)) (now (output .exit)) r ⌝ }
 {
     if too_short(room.len(), output.len()) {
         return Told::Short;
     }
     let asked = line::read_line(bytes);
-    let end = perform(cells, room, output, asked);
+    let end = perform(pool, room, output, asked);
     Told::Bytes(end)
 }
