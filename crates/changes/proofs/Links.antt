@@ -1,14 +1,15 @@
 -- The cell of a link, and the four cells of a slot.
-use Prim.Native.Nat.{ℕ, _+_, _*_, _/_, _≤_}
-use mathlib.Core.Path.{_≡_, refl}
+use Prim.Native.Nat.{ℕ, _+_, _*_, _-_, _/_, _≤_, _<_}
+use mathlib.Core.Path.{_≡_, refl, sym, ap, _∙_}
 use mathlib.Core.Logic.{_≢_}
 use mathlib.Core.Bool.{Bool, true, false, not}
 use mathlib.Core.List.{List}
 use native.Mathlib.Omega.{arith}
-use lib.ListN.{getD}
-use Rattle.rule.specs.Cells.{perSlot, sonAt, linkCell}
+use lib.ListN.{length, getD, set}
+use lib.Seq.{getD-set-other}
+use Rattle.rule.specs.Cells.{perSlot, Fits, sonAt, linkCell}
 use Rattle.rule.proofs.Order.{pair-ext}
-use Rattle.rule.proofs.Agreement.{Agree}
+use Rattle.rule.proofs.Agreement.{Agree, agree-cell}
 
 -- the cell of a link, and what it holds
 pub link-slot : (s : ℕ) (left : Bool) → linkCell s left / perSlot ≡ s
@@ -21,10 +22,10 @@ unfolding linkCell
 link-low s true = omega arith
 link-low s false = omega arith
 
-pub link-high : (s : ℕ) (left : Bool) → linkCell s left ≤ s * perSlot + 3
+pub link-inside : (c : List ℕ) (s : ℕ) (left : Bool) → Fits c s → linkCell s left < length c
 unfolding linkCell
-link-high s true = omega arith
-link-high s false = omega arith
+link-inside c s true h = omega arith
+link-inside c s false h = omega arith
 
 pub link-other : (s : ℕ) (left : Bool) → linkCell s (not left) ≢ linkCell s left
 unfolding linkCell
@@ -43,3 +44,10 @@ agree-cells u h = record {
   left = h (u * perSlot + 2) (omega arith);
   right = h (u * perSlot + 3) (omega arith);
 }
+
+pub agree-get : {c d : List ℕ} (j : ℕ) → Agree c d (j / perSlot) → getD d j 0 ≡ getD c j 0
+agree-get j h = agree-cell h j (j - j / perSlot * perSlot) (omega arith) (omega arith)
+
+-- one cell written
+pub cell-agree : (c : List ℕ) (i v s : ℕ) → i / perSlot ≢ s → Agree c (set c i v) s
+cell-agree c i v s n = agree-cells s (λ j e. getD-set-other c i j v 0 (λ z. n (sym (ap (λ k. k / perSlot) z) ∙ e)))

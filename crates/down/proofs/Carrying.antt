@@ -20,13 +20,13 @@ use Rattle.rule.proofs.Order.{true-beats, false-beats}
 use Rattle.rule.proofs.Stripes.{low-part}
 use Rattle.rule.proofs.GoDown.{Sorted, swap, keep, Down, put, go-left, go-right, down-value}
 use Rattle.rule.proofs.Leads.{back, leads-tree, leads-fits}
-use Rattle.rule.proofs.Standing.{Stands, at-top, Distinct, down-stands}
-use Rattle.rule.proofs.Agreement.{Holds, holds-agree, same-slot, slot-as, slot-fits, leads-reads, leads-top, leads-frame, pair-wrote, putSlot, slot-wrote, slot-read}
+use Rattle.rule.proofs.Standing.{Stands, at-top, down-stands}
+use Rattle.rule.proofs.Agreement.{Holds, holds-agree, same-slot, slot-as, slot-fits, Reads, leads-reads, leads-top, putSlot, slot-wrote, slot-read}
 use Rattle.changes.specs.Places.{Replaced}
-use Rattle.changes.proofs.Links.{link-low, link-high, agree-cells}
+use Rattle.changes.proofs.Links.{link-slot, agree-cells, agree-get}
+use Rattle.changes.proofs.Sides.{Seen, from-left, from-right, Outside, outside, Held, held}
+use Rattle.changes.proofs.Replacing.{Paired, paired-put, son-inside, son-other, son-apart, son-leads, replaced-up}
 use Rattle.down.specs.Down.{Going, Carried, stays, goesOn, Settled, Room, taken}
-use Rattle.down.proofs.Sides.{joined, Sons, top-stands, near-stands, far-stands, joined-distinct, joined-within, sons-read}
-use Rattle.down.proofs.Replacing.{pair-kept, link-kept, links-kept, replaced-up}
 
 -- where two pairs meet
 module _ {c : List ℕ} {s : ℕ} {p q : Pair} {t : Bool} (eq : q ≡ pairAt c s) (et : t ≡ beats p q) where
@@ -72,35 +72,37 @@ within-some zero (go-left o j d) h e = h
 within-some zero (go-right o j d) h e = h
 within-some (suc k) d h e = omega arith
 
+within-near : {s : ℕ} {p : Pair} {u v t : Tree Pair} {b : Bool} (k : ℕ) → Seen s p u v b t → Within (suc k) t → Within k u
+within-near k from-left h = h .0
+within-near k from-right h = h .1
+
 -- the way down at a slot s that holds q: w stays, and z goes on in the near tree
 record Turn (f s : ℕ) (w q z : Pair) (b : Bool) (at : Stripe) (before after : Tree Pair) : Type 0 where
   near : Tree Pair
   far : Tree Pair
   grown : Tree Pair
-  was : before ≡ joined b s q near far
-  is : after ≡ joined b s w grown far
+  was : Seen s q near far b before
+  is : Seen s w grown far b after
   down : Down itself f z at near grown
 
 module _ {c : List ℕ} {f s : ℕ} {p q w z : Pair} {b : Bool} {part : Stripe} (at : Stripe) (eq : q ≡ pairAt c s) (ew : w ≡ stays p q) (ez : z ≡ goesOn p q)
     (eb : b ≡ ltb (z .x) (middle at)) (ea : part ≡ partOf at (z .x)) where
-  turned : {q′ w′ z′ : Pair} (b′ : Bool) (i : ℕ) (near far grown : Tree Pair) → Leads c s (joined b′ i q′ near far) → Sorted itself p q′ w′ z′
-      → ltb (z′ .x) (middle at) ≡ b′ → Down itself f z′ (cond b′ (leftPart at) (rightPart at)) near grown
-      → Turn f s w q z b part (joined b′ i q′ near far) (joined b′ i w′ grown far)
+  turned : {q′ w′ z′ : Pair} {i : ℕ} {l r near far grown t t′ : Tree Pair} {b′ : Bool} → Reads c s i q′ l r → Seen i q′ near far b′ t
+      → Seen i w′ grown far b′ t′ → Sorted itself p q′ w′ z′ → ltb (z′ .x) (middle at) ≡ b′
+      → Down itself f z′ (cond b′ (leftPart at) (rightPart at)) near grown → Turn f s w q z b part t t′
   unfolding partOf
-  turned {q′} {w′} {z′} b′ i near far grown h o side d =
-      let R = sons-read i q′ near far c b′ h in
-      let es : s ≡ i = R .here in
-      let eq′ : q ≡ q′ = eq ∙ ap (λ v. pairAt c v) es ∙ R .pair in
+  turned {q′} {w′} {z′} {near = near} {far = far} {grown = grown} {b′ = b′} R was is o side d =
+      let eq′ : q ≡ q′ = eq ∙ ap (λ v. pairAt c v) (R .here) ∙ R .pair in
       let ew′ : w ≡ w′ = ew ∙ ap (λ v. stays p v) eq′ ∙ sorted-stays o in
       let ez′ : z ≡ z′ = ez ∙ ap (λ v. goesOn p v) eq′ ∙ sorted-goes o in
       let eb′ : b ≡ b′ = eb ∙ rw ez′ side in
       let ea′ : part ≡ cond b′ (leftPart at) (rightPart at) = ea ∙ rw (ez′, side) refl in
-      rw (es, eq′, ew′, ez′, eb′, ea′) (record { near = near; far = far; grown = grown; was = refl; is = refl; down = d })
+      rw (R .here, eq′, ew′, ez′, eb′, ea′) (record { near = near; far = far; grown = grown; was = was; is = is; down = d })
 
   turn : {t t′ : Tree Pair} → Leads c s t → (s ≡ 0 → ⊥) → Down itself f p at t t′ → Turn f s w q z b part t t′
   turn h ne put = absurd (ne (leads-top h))
-  turn h ne (go-left {z = z′} {i = i} {l = l} {r = r} {t = t} o j d) = turned true i l r t h o (lt-ltb (z′ .x) (middle at) j) d
-  turn h ne (go-right {z = z′} {i = i} {l = l} {r = r} {t = t} o j d) = turned false i r l t h o (le-ltb (z′ .x) (middle at) j) d
+  turn h ne (go-left {z = z′} o j d) = turned (leads-reads h) from-left from-left o (lt-ltb (z′ .x) (middle at) j) d
+  turn h ne (go-right {z = z′} o j d) = turned (leads-reads h) from-right from-right o (le-ltb (z′ .x) (middle at) j) d
 
 -- what is known at a place: the tree that is read there, and the one that p goes down into
 module _ {c : List ℕ} {k cell : ℕ} {at : Stripe} {p : Pair} (g : Going c k cell at p) where
@@ -165,8 +167,7 @@ module _ {c : List ℕ} {cell : ℕ} (p : Pair) (r : Room c cell) (away : cell /
         long = taken-long;
         link = taken-link;
         leads = slot-as (same-slot taken-long (r .slot)) (H .pair) (H .left) (H .right) nowhere nowhere;
-        rest = λ j n i m.
-            taken-else j n i ∙ links-kept (putPair c f p) f 0 0 j (λ e. m (at-top e)) ∙ pair-kept c f p j (λ e. m (at-top e));
+        rest = λ j n i m. taken-else j n i ∙ agree-get j (slot-wrote c f p 0 0 .rest (j / perSlot) (λ e. m (at-top e)));
       }
 
 grown-one : {c : List ℕ} {s f : ℕ} {p : Pair} {at : Stripe} {t t′ : Tree Pair} → Leads c s t → s ≡ 0 → Down itself f p at t t′ → fork f p none none ≡ t′
@@ -201,56 +202,38 @@ module _ {c : List ℕ} {k cell : ℕ} {at : Stripe} {p : Pair} (g : Going c (su
   T : Turn (freeOf c) s w (pairAt c s) z b (partOf at (z .x)) (g .before) (g .after)
   T = turn at refl refl refl refl refl (g .leads) ne (g .down)
 
-  S : Sons s (pairAt c s) (T .near) (T .far) c b s
-  S = sons-read s (pairAt c s) (T .near) (T .far) c b (subst (λ t. Leads c s t) (T .was) (g .leads))
+  S : Held c cell s (T .near) (T .far) b
+  S = held (T .was) (g .leads) (g .distinct) (g .apart) (g .other)
 
-  D : Distinct (fork s (pairAt c s) (T .near) (T .far))
-  D = joined-distinct s (pairAt c s) (T .near) (T .far) b (subst (λ t. Distinct t) (T .was) (g .distinct))
-
-  on-top : {u : ℕ} → u ≡ s → Stands u (g .before)
-  on-top q = rw (T .was) (top-stands s (pairAt c s) (T .near) (T .far) b q)
-
-  on-near : {u : ℕ} → Stands u (T .near) → Stands u (g .before)
-  on-near m = rw (T .was) (near-stands s (pairAt c s) (T .near) (T .far) b m)
-
-  on-far : {u : ℕ} → Stands u (T .far) → Stands u (g .before)
-  on-far m = rw (T .was) (far-stands s (pairAt c s) (T .near) (T .far) b m)
+  W : Paired c s w e
+  W = paired-put c s w (slot-fits (S .slot))
 
   -- the free slot is another, and stays the first
-  not-free : s ≢ freeOf c
-  not-free q = g .new (on-top (sym q))
+  N : Outside (freeOf c) s (T .near) (T .far)
+  N = outside (T .was) (g .new)
 
   same-free : freeOf e ≡ freeOf c
-  same-free = pair-wrote c s w .rest 0 (λ q. ne (sym q)) .left
+  same-free = W .wrote .rest 0 (λ q. ne (sym q)) .left
 
   same-next : rightAt e (freeOf e) ≡ rightAt c (freeOf c)
-  same-next = rw same-free (pair-wrote c s w .rest (freeOf c) (λ q. not-free (sym q)) .right)
+  same-next = rw same-free (W .wrote .rest (freeOf c) (N .top) .right)
 
   below : Going e k (linkCell s b) (partOf at (z .x)) z
-  below =
-      let W = pair-wrote c s w in
-      let from = link-low s b in
-      let to = link-high s b in
-      let o = S .slot in
-      let some = o .some in
-      let fits = slot-fits o in
-      let long = W .long in
-      let q : linkCell s b / perSlot ≡ s = omega arith in
-      record {
-        before = T .near;
-        after = T .grown;
-        inside = omega arith;
-        leads = rw (link-kept c s w b) (leads-frame (W .long) (S .on-near) (λ u m. W .rest u (λ i. D .not-left (rw i at m))));
-        distinct = D .left;
-        apart = λ m. D .not-left (rw q at m);
-        free = rw same-free (same-slot (W .long) (g .free));
-        new = λ m. g .new (on-near (rw same-free at m));
-        elsewhere = rw (q, same-free) not-free;
-        other = λ i. omega arith;
-        down = rw same-free (T .down);
-        levels = joined-within s w (T .grown) (T .far) b k (rw (T .is) at (g .levels));
-        low = low-part at (z .x) (g .low);
-      }
+  below = record {
+    before = T .near;
+    after = T .grown;
+    inside = son-inside S W;
+    leads = son-leads S W;
+    distinct = S .distinct .left;
+    apart = son-apart S W;
+    free = rw same-free (same-slot (W .wrote .long) (g .free));
+    new = λ m. N .near (rw same-free at m);
+    elsewhere = rw (link-slot s b, same-free) (λ q. N .top (sym q));
+    other = son-other S W;
+    down = rw same-free (T .down);
+    levels = within-near k (T .is) (g .levels);
+    low = low-part at (z .x) (g .low);
+  }
 
   -- the slots of the grown tree are none of the others
   grown-out : {u : ℕ} → u ≢ freeOf c → (Stands u (T .near) → ⊥) → Stands u (T .grown) → ⊥
@@ -260,9 +243,8 @@ module _ {c : List ℕ} {k cell : ℕ} {at : Stripe} {p : Pair} (g : Going c (su
   unfolding below T
   up {d} h =
       carried-by g
-      (rw (T .is) (replaced-up cell s b w w (T .far) (S .slot) refl (λ q. g .apart (on-top q)) (g .other) (S .on-far) (D .not-right)
-      (carried-as below h) (grown-out not-free (D .not-left)) (grown-out (g .elsewhere) (λ m. g .apart (on-near m)))
-      (λ u m n. grown-out (λ q. g .new (on-far (rw q at n))) (λ i. D .across u i n) m)))
+      (replaced-up S W (carried-as below h) (grown-out (λ q. N .top (sym q)) (S .distinct .not-left)) (grown-out (g .elsewhere) (S .out .near))
+      (λ u m n. grown-out (λ q. N .far (rw q at n)) (λ i. S .distinct .across u i n) m) (T .is) (T .is))
       (h .first ∙ same-next)
 
   deep : k ≡ 0 → ⊥

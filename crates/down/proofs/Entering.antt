@@ -1,25 +1,23 @@
 -- A pair that enters a sound pool: it goes down from the root, and the count moves. What is above the place where it first changes
 -- something can be passed over.
-use Prim.Native.Nat.{ℕ, zero, suc, _+_, _≤_, _<_}
+use Prim.Native.Nat.{ℕ, zero, suc, _+_, _<_}
 use mathlib.Core.Path.{_≡_, refl, sym, _∙_}
 use mathlib.Core.Logic.{_≢_}
 use mathlib.Core.Bool.{Bool, true, false}
 use mathlib.Core.List.{List}
 use native.Mathlib.Omega.{arith}
 use lib.Dec.{ltb}
-use lib.ListN.{length, getD, set, length-set}
-use lib.Seq.{getD-set-same, getD-set-other}
+use lib.ListN.{getD, set}
 use Rattle.rule.specs.declared.Pair.{Pair}
 use Rattle.rule.specs.Plain.{hasX}
 use Rattle.rule.specs.Pairs.{beats}
 use Rattle.rule.specs.Stripe.{Stripe, rootStripe, middle, partOf}
 use Rattle.rule.specs.Tree.{Tree, none, fork, size, Within}
 use Rattle.rule.specs.Changes.{met}
-use Rattle.rule.specs.Cells.{Fits, rootOf, freeOf, countOf, pairAt, sonAt, linkCell, stored, treeAt}
+use Rattle.rule.specs.Cells.{rootOf, freeOf, countOf, pairAt, sonAt, linkCell, stored, treeAt}
 use Rattle.rule.specs.Sound.{Sound, Leads, lowLevels, allLevels, itself}
 use Rattle.rule.specs.Laid.{inserted}
 use Rattle.rule.proofs.Tests.{on, clash}
-use Rattle.rule.proofs.Order.{pair-ext}
 use Rattle.rule.proofs.Stripes.{low-root}
 use Rattle.rule.proofs.Trees.{all-map, all-mem, New}
 use Rattle.rule.proofs.Leads.{tree-fork, tree-within, leads-tree, leads-son}
@@ -27,21 +25,21 @@ use Rattle.rule.proofs.Levels.{root-levels}
 use Rattle.rule.proofs.Halving.{mem-met, new-unmet}
 use Rattle.rule.proofs.Having.{hasX-true, true-hasX}
 use Rattle.rule.proofs.Decided.{sound-well, sound-tree}
-use Rattle.rule.proofs.Standing.{Stands}
-use Rattle.rule.proofs.Agreement.{leads-slot, leads-frame, header-fits}
+use Rattle.rule.proofs.Agreement.{leads-slot, header-fits}
 use Rattle.rule.proofs.Slots.{sound-distinct, tree-slot}
 use Rattle.rule.proofs.Stored.{stored-mem}
 use Rattle.rule.proofs.Inserted.{grown, taken-first, taken-out, grown-down, grown-well, inserted-one}
 use Rattle.halving.specs.Sought.{Sought}
 use Rattle.halving.proofs.Searching.{there, sought-on, goes-on as met-on}
 use Rattle.changes.specs.Places.{Replaced}
-use Rattle.changes.proofs.Links.{agree-cells}
+use Rattle.changes.proofs.Links.{link-inside, link-son}
+use Rattle.changes.proofs.Counting.{counted}
 use Rattle.down.specs.Down.{Enters, Going, Carried, Reached}
 use Rattle.down.proofs.Carrying.{passes, passed}
 
 -- whether x is stored
 module _ {c : List ℕ} (s : Sound c) where
-  pub unstored-new : (x : ℕ) → hasX x (stored c) ≡ false → New itself x (s .tree)
+  unstored-new : (x : ℕ) → hasX x (stored c) ≡ false → New itself x (s .tree)
   unstored-new x f = all-map (λ q m e. clash (true-hasX q x (stored c) (stored-mem s q .1 m) (sym e)) f) (s .tree) (all-mem (s .tree))
 
   tree-met : (x : ℕ) → met itself x rootStripe (s .tree) ≡ hasX x (stored c)
@@ -51,77 +49,48 @@ module _ {c : List ℕ} (s : Sound c) where
       rw (h .same) at m ∙ sym t)
       (λ t. new-unmet itself x rootStripe (s .tree) (unstored-new x t) ∙ sym t)
 
-  pub root-sought : (v : ℕ) (at : Stripe) → v ≡ rootOf c → at ≡ rootStripe → Sought c allLevels v at
+  root-sought : (v : ℕ) (at : Stripe) → v ≡ rootOf c → at ≡ rootStripe → Sought c allLevels v at
   root-sought v at ev ea = rw (ev, ea) (record { leads = rw (sound-tree c s) (s .links); low = low-root refl })
 
   -- law: x is met from the root exactly where it is stored
-  pub root-met : (x v : ℕ) (at : Stripe) (r : Bool) → v ≡ rootOf c → at ≡ rootStripe → r ≡ met itself x at (treeAt c allLevels v) → r ≡ hasX x (stored c)
+  root-met : (x v : ℕ) (at : Stripe) (r : Bool) → v ≡ rootOf c → at ≡ rootStripe → r ≡ met itself x at (treeAt c allLevels v) → r ≡ hasX x (stored c)
   root-met x v at r ev ea er = er ∙ rw (ev, ea, sound-tree c s) (tree-met x)
 
   -- law: a pair whose x is not stored may enter where a slot is free
   pub enters : (p : Pair) → hasX (p .x) (stored c) ≡ false → freeOf c ≢ 0 → Enters c p
   enters p f r = record { sound = s; new = unstored-new (p .x) f; room = r }
 
-linked : (c : List ℕ) (s : ℕ) (b : Bool) → getD c (linkCell s b) 0 ≡ sonAt c s b
-unfolding linkCell sonAt
-linked c s true = refl
-linked c s false = refl
+module _ {c : List ℕ} {p : Pair} (n : Enters c p) (b : p .x < 4294967296) {at : Stripe} (ea : at ≡ rootStripe) where
+  -- law: it can go down from the root
+  root-going : Going c allLevels 1 at p
+  root-going =
+      let s = n .sound in
+      let h = header-fits (s .pool) in
+      rw ea (record {
+        before = s .tree;
+        after = grown s p;
+        inside = omega arith;
+        leads = s .links;
+        distinct = sound-distinct s;
+        apart = λ m. omega (arith, tree-slot s m .some);
+        free = taken-first s (n .room) .slot;
+        new = taken-out s (n .room);
+        elsewhere = λ e. n .room (sym e);
+        other = λ e. omega arith;
+        down = grown-down s p (n .new) b (n .room);
+        levels = root-levels itself (grown s p) (grown-well s p (n .new) b (n .room));
+        low = low-root refl;
+      })
 
-link-inside : (c : List ℕ) (s : ℕ) (b : Bool) → Fits c s → linkCell s b < length c
-unfolding linkCell
-link-inside c s true h = omega arith
-link-inside c s false h = omega arith
+  root-replaced : {d : List ℕ} → Carried c allLevels 1 at p d → Replaced c 1 (grown (n .sound) p) (grown (n .sound) p) d
+  root-replaced h = rw (ea, sound-tree c (n .sound)) at (h .place)
 
-module _ {c : List ℕ} {p : Pair} (n : Enters c p) where
-  header-there : Fits c 0
-  header-there = header-fits (n .sound .pool)
-
-  module _ (b : p .x < 4294967296) {at : Stripe} (ea : at ≡ rootStripe) where
-    -- law: it can go down from the root
-    pub root-going : Going c allLevels 1 at p
-    root-going =
-        let s = n .sound in
-        let h = header-there in
-        rw ea (record {
-          before = s .tree;
-          after = grown s p;
-          inside = omega arith;
-          leads = s .links;
-          distinct = sound-distinct s;
-          apart = λ m. omega (arith, tree-slot s m .some);
-          free = taken-first s (n .room) .slot;
-          new = taken-out s (n .room);
-          elsewhere = λ e. n .room (sym e);
-          other = λ e. omega arith;
-          down = grown-down s p (n .new) b (n .room);
-          levels = root-levels itself (grown s p) (grown-well s p (n .new) b (n .room));
-          low = low-root refl;
-        })
-
-    root-replaced : {d : List ℕ} → Carried c allLevels 1 at p d → Replaced c 1 (grown (n .sound) p) (grown (n .sound) p) d
-    root-replaced h = rw (ea, sound-tree c (n .sound)) at (h .place)
-
-    -- law: where it has, and the count has moved, the pool is the one with the pair inserted
-    pub entered : (d : List ℕ) → Carried c allLevels 1 at p d → set d 3 (countOf c + 1) ≡ inserted c p
-    entered d h =
-        let s = n .sound in
-        let R = root-replaced h in
-        let v = countOf c + 1 in
-        let z : (u : ℕ) → Stands u (grown s p) → 1 ≤ u = λ u m. leads-slot (grown s p) (R .leads) m .some in
-        let f = header-there in
-        let l = R .long in
-        inserted-one s p (n .new) b (n .room) (record {
-          long = length-set d 3 v ∙ R .long;
-          header = record {
-            pair = pair-ext (getD-set-other d 3 0 v 0 (omega arith) ∙ R .rest 0 (omega arith) (omega arith) (λ m. omega (arith, z 0 m)) ∙ s .mark)
-                (getD-set-other d 3 1 v 0 (omega arith) ∙ R .link);
-            left = getD-set-other d 3 2 v 0 (omega arith) ∙ h .first;
-            right = getD-set-same d 3 v 0 (omega arith);
-          };
-          leads = leads-frame (length-set d 3 v) (R .leads) (λ u m. agree-cells u (λ j q. getD-set-other d 3 j v 0 (λ i. omega (arith, z u m))));
-          rest = λ u o m. let a = o .some in
-              agree-cells u (λ j q. getD-set-other d 3 j v 0 (λ i. omega arith) ∙ R .rest j (λ i. omega arith) (λ i. omega arith) (λ k. m (rw q at k)));
-        })
+  -- law: where it has, and the count has moved, the pool is the one with the pair inserted
+  entered : (d : List ℕ) → Carried c allLevels 1 at p d → set d 3 (countOf c + 1) ≡ inserted c p
+  entered d h =
+      let s = n .sound in
+      let R = root-replaced h in
+      inserted-one s p (n .new) b (n .room) (counted s R (λ m. omega (arith, leads-slot (grown s p) (R .leads) m .some)) (h .first) (countOf c + 1))
 
 -- law: the way down starts at the root
 pub reached-root : {c : List ℕ} {p : Pair} {at : Stripe} → Sound c → p .x < 4294967296 → at ≡ rootStripe → Reached c p 1 at
@@ -178,7 +147,7 @@ module _ {c : List ℕ} {cell : ℕ} {at : Stripe} {p q : Pair} {t : Bool} (R : 
   s = getD c cell 0
 
   es : getD c cell′ 0 ≡ sonAt c s side
-  es = rw ec (linked c s side)
+  es = rw ec (link-son c s side)
 
   nx′ : pairAt c s .x ≡ p .x → ⊥
   nx′ = rw eq at nx

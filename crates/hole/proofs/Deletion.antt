@@ -1,35 +1,33 @@
 -- A deletion from a sound pool: a removal from the root, and the count less one.
-use Prim.Native.Nat.{ℕ, _-_, _/_, _≤_}
+use Prim.Native.Nat.{ℕ, _-_, _≤_}
 use mathlib.Core.Path.{_≡_, refl, ap, _∙_}
 use mathlib.Core.Logic.{_≢_}
 use mathlib.Core.List.{List}
 use native.Mathlib.Omega.{arith}
-use lib.ListN.{getD, set, length-set}
-use lib.Seq.{getD-set-same, getD-set-other}
+use lib.ListN.{set}
 use Rattle.rule.specs.declared.Pair.{Pair}
 use Rattle.rule.specs.Plain.{hasX, has}
 use Rattle.rule.specs.Stripe.{Stripe, rootStripe}
 use Rattle.rule.specs.Tree.{Tree, members, size, Mem, here, in-left, in-right}
 use Rattle.rule.specs.Changes.{takeOut}
-use Rattle.rule.specs.Cells.{perSlot, freeOf, countOf, freeMark, stored}
+use Rattle.rule.specs.Cells.{freeOf, countOf, freeMark, stored}
 use Rattle.rule.specs.Sound.{itself, Sound}
 use Rattle.rule.proofs.Tests.{on}
-use Rattle.rule.proofs.Order.{pair-ext}
 use Rattle.rule.proofs.Members.{members-mem, apart-same}
 use Rattle.rule.proofs.Having.{hasX-true, true-hasX, has-true, true-has}
 use Rattle.rule.proofs.Stripes.{low-root}
 use Rattle.rule.proofs.Standing.{Stands}
 use Rattle.rule.proofs.Decided.{sound-well, sound-tree}
-use Rattle.rule.proofs.Agreement.{agree-then, Holds, holds-agree, header-fits, leads-frame, leads-slot}
+use Rattle.rule.proofs.Agreement.{Holds, holds-agree, header-fits}
 use Rattle.rule.proofs.Slots.{sound-distinct, tree-slot}
 use Rattle.rule.proofs.Stored.{stored-mem}
 use Rattle.rule.proofs.Changed.{Changed}
 use Rattle.rule.proofs.Deleted.{cut, given-slot, deleted-one}
-use Rattle.changes.proofs.Links.{agree-cells}
+use Rattle.changes.proofs.Links.{cell-agree}
+use Rattle.changes.proofs.Counting.{counted}
 use Rattle.hole.specs.declared.Removal.{Removal}
 use Rattle.hole.specs.declared.Removal.the-variants.{Done, Missing, Other}
 use Rattle.hole.specs.Hole.{placed, Freed, Looking, Removed, missing, other, done, Deletes}
-use Rattle.hole.proofs.Holes.{cell-agree}
 
 -- what a removal ended with
 record Absent (c : List ℕ) (t : Tree Pair) (p : Pair) (d : List ℕ) : Type 0 where
@@ -116,36 +114,16 @@ module _ {c : List ℕ} (s : Sound c) where
       taken : Out c 1 (s .tree) rootStripe p d
       taken = out removed e
 
-      kept : (j : ℕ) → j ≢ 1 → j ≢ 2 → j / perSlot ≡ 0 → getD d j 0 ≡ getD c j 0
-      kept j a b z = taken .freed .place .rest j a b (λ m. header-out (rw z at m))
-
       module _ {n : ℕ} (en : n ≡ countOf d) where
+        same-count : n ≡ countOf c
+        same-count = en ∙ taken .freed .place .rest 3 (omega arith) (omega arith) header-out
+
         -- law: the count can fall
         pub some-counted : 1 ≤ n
-        some-counted =
-            let k = kept 3 (omega arith) (omega arith) refl in
-            let z = some-size (taken .member) in
-            let h = s .count in
-            omega arith
+        some-counted = omega (arith, same-count, some-size (taken .member), s .count)
 
         changed : Changed c (set d 3 (n - 1)) (cut s (p .x) .tree) (s .tree) (cut s (p .x) .slot) (countOf c - 1)
-        changed =
-            let F = taken .freed in
-            let P = F .place in
-            let f = header-fits (s .pool) in
-            let l = P .long in
-            let k = kept 3 (omega arith) (omega arith) refl in
-            record {
-              long = length-set d 3 (n - 1) ∙ l;
-              header = record {
-                pair = pair-ext (getD-set-other d 3 0 (n - 1) 0 (omega arith) ∙ kept 0 (omega arith) (omega arith) refl ∙ s .mark)
-                    (getD-set-other d 3 1 (n - 1) 0 (omega arith) ∙ P .link);
-                left = getD-set-other d 3 2 (n - 1) 0 (omega arith) ∙ F .first;
-                right = getD-set-same d 3 (n - 1) 0 (omega arith) ∙ ap (λ m. m - 1) (en ∙ k);
-              };
-              leads = leads-frame (length-set d 3 (n - 1)) (P .leads) (λ u m. let i = leads-slot (cut s (p .x) .tree) (P .leads) m .some in cell-agree d 3 (n - 1) u (omega arith));
-              rest = λ u o m. let i = o .some in agree-then (agree-cells u (λ j z. P .rest j (omega arith) (omega arith) (λ k. m (rw z at k)))) (cell-agree d 3 (n - 1) u (omega arith));
-            }
+        changed = rw same-count (counted s (taken .freed .place) header-out (taken .freed .first) (countOf c - 1))
 
         given : Holds (set d 3 (n - 1)) (cut s (p .x) .slot) (record { x = 0; y = 0 }) freeMark (freeOf c)
         given =

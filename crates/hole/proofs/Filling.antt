@@ -15,11 +15,12 @@ use Rattle.rule.specs.Changes.{fill}
 use Rattle.rule.specs.Cells.{Fits, pairAt, leftAt, rightAt, sonAt, linkCell, treeAt}
 use Rattle.rule.specs.Sound.{Leads, itself}
 use Rattle.rule.proofs.Tests.{on}
-use Rattle.rule.proofs.Leads.{back, tree-none, tree-fork, tree-within, leads-tree, leads-deep, leads-fits, leads-son}
-use Rattle.changes.proofs.Links.{link-low, link-high, link-son}
-use Rattle.hole.specs.Hole.{placed, Place, Sons, Heirs, no-sons, heir, Promotes, promoted, Releases, released, Hole, Freed}
-use Rattle.hole.proofs.Forks.{forkOn, tree-on, cutOn, Wins, alone, over, fill-on}
-use Rattle.hole.proofs.Holes.{Paired, paired-put, son-place, freed-on, freed-last}
+use Rattle.rule.proofs.Leads.{back, tree-none, tree-fork, leads-deep, leads-fits, leads-son}
+use Rattle.changes.proofs.Links.{link-low, link-inside, link-son}
+use Rattle.changes.proofs.Replacing.{Paired, paired-put}
+use Rattle.hole.specs.Hole.{placed, Sons, Heirs, no-sons, heir, Promotes, promoted, Releases, released, Hole, Freed}
+use Rattle.hole.proofs.Forks.{Cut-on, Wins, alone, over, fill-on}
+use Rattle.hole.proofs.Holes.{son-tree, seen, son-place, freed-on, freed-last}
 
 -- the heir, as the code finds it
 module _ (c : List ℕ) (s : ℕ) {l r : ℕ} (el : l ≡ leftAt c s) (er : r ≡ rightAt c s) where
@@ -63,7 +64,7 @@ won c s true e = e
 won c s false e = e
 
 module _ {c : List ℕ} {n cell : ℕ} (o : Hole c (suc n) cell) where
-  pub hole-fits : Fits c (getD c cell 0)
+  hole-fits : Fits c (getD c cell 0)
   hole-fits = leads-fits c (o .place .leads) (o .there)
 
   pub hole-sons : Sons c (getD c cell 0)
@@ -94,26 +95,17 @@ module _ {c : List ℕ} {n cell : ℕ} (o : Hole c (suc n) cell) where
     abbrev s : ℕ
     s = getD c cell 0
 
-    abbrev u : Tree Pair
-    u = treeAt c n (sonAt c s left)
-
     abbrev v : Tree Pair
     v = treeAt c n (sonAt c s (not left))
 
     abbrev q : Pair
     q = pairAt c (sonAt c s left)
 
-    near : Leads c (sonAt c s left) u
+    near : Leads c (sonAt c s left) (treeAt c n (sonAt c s left))
     near = leads-son c n s left (o .place .leads) (o .there)
 
     deep : n ≢ 0
     deep = leads-deep c n (sonAt c s left) near t
-
-    here-tree : placed c (suc n) cell ≡ forkOn left s (pairAt c s) u v
-    here-tree = tree-on c n s left (o .there)
-
-    here-place : Place c cell (forkOn left s (pairAt c s) u v)
-    here-place = rw here-tree at (o .place)
 
     a-fork : (i : ℕ) → i ≢ 0 → treeAt c n i ≡ fork i (pairAt c i) (treeAt c (n - 1) (leftAt c i)) (treeAt c (n - 1) (rightAt c i))
     a-fork i h = ap (λ k. treeAt c k i) (sym (back n deep)) ∙ tree-fork c (n - 1) i h
@@ -124,35 +116,29 @@ module _ {c : List ℕ} {n cell : ℕ} (o : Hole c (suc n) cell) where
         on (eqb i 0) (λ e. rw (tree-none c n i (eqb-true i 0 e)) alone)
         (λ e. let m = eqb-false i 0 e in rw (a-fork i m) (over (won c s left (w m))))
 
-    filled : fill itself (forkOn left s (pairAt c s) u v) ≡ cutOn left s q (fill itself u) v
-    filled = rw (a-fork (sonAt c s left) t) (fill-on left s (sonAt c s left) (pairAt c s) q (treeAt c (n - 1) (leftAt c (sonAt c s left))) (treeAt c (n - 1) (rightAt c (sonAt c s left))) v wins-far)
-
     son-promotes : Promotes c s (linkCell s left)
-    son-promotes =
-        let f = hole-fits in
-        let b = link-high s left in
-        record { to = f; inside = omega arith; from = rw (link-son c s left) (leads-fits c near t) }
+    son-promotes = record { to = hole-fits; inside = link-inside c s left hole-fits; from = rw (link-son c s left) (leads-fits c near t) }
 
-    paired : Paired c s q (promoted c s (linkCell s left))
+    abbrev c′ : List ℕ
+    c′ = promoted c s (linkCell s left)
+
+    paired : Paired c s q c′
     unfolding promoted
     paired = rw (link-son c s left) (paired-put c s q hole-fits)
 
-    next-place : Place (promoted c s (linkCell s left)) (linkCell s left) u
-    next-place = son-place left (pairAt c s) u v here-place paired
+    abbrev u : Tree Pair
+    u = placed c′ (suc (n - 1)) (linkCell s left)
 
-    next-tree : placed (promoted c s (linkCell s left)) (suc (n - 1)) (linkCell s left) ≡ u
-    next-tree = leads-tree (promoted c s (linkCell s left)) (suc (n - 1)) (next-place .leads) (rw (back n deep) (tree-within c n (sonAt c s left)))
+    filled : Cut-on left s q v (fill itself u) (fill itself (placed c (suc n) cell))
+    filled =
+        let e = son-tree n (o .place) (o .there) deep left paired ∙ a-fork (sonAt c s left) t in
+        rw e (fill-on (rw e at (seen n (o .place) (o .there) deep left paired)) wins-far)
 
-    son-hole : Hole (promoted c s (linkCell s left)) (suc (n - 1)) (linkCell s left)
-    son-hole = record {
-      place = rw next-tree next-place;
-      there = rw (link-son (promoted c s (linkCell s left)) s left, paired .son left) t;
-    }
+    son-hole : Hole c′ (suc (n - 1)) (linkCell s left)
+    son-hole = record { place = son-place n (o .place) (o .there) deep left paired; there = rw (paired .link left, link-son c s left) t }
 
-    son-freed : (d : List ℕ) → Freed (promoted c s (linkCell s left)) (linkCell s left) (placed (promoted c s (linkCell s left)) (suc (n - 1)) (linkCell s left))
-        (fill itself (placed (promoted c s (linkCell s left)) (suc (n - 1)) (linkCell s left))) d
-        → Freed c cell (placed c (suc n) cell) (fill itself (placed c (suc n) cell)) d
-    son-freed d h = rw (here-tree, filled) (freed-on left (pairAt c s) u v here-place paired (fill itself u) d (rw next-tree at h))
+    son-freed : (d : List ℕ) → Freed c′ (linkCell s left) u (fill itself u) d → Freed c cell (placed c (suc n) cell) (fill itself (placed c (suc n) cell)) d
+    son-freed d h = freed-on n (o .place) (o .there) deep left paired filled h
 
   -- law: the heir's pair moves up, and the hole is at its place
   module _ {h : ℕ} (H : Heirs c (getD c cell 0) h) (ne : h ≢ 0) where

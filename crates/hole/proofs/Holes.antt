@@ -1,123 +1,61 @@
 -- A place, and the place of a son of its slot: what is known of the first is known of the second, and what is freed at the second is freed at the first.
-use Prim.Native.Nat.{ℕ, _+_, _*_, _-_, _/_}
-use mathlib.Core.Path.{_≡_, refl, sym, ap, _∙_}
+use Prim.Native.Nat.{ℕ, suc, _-_, _/_}
+use mathlib.Core.Path.{_≡_, refl, sym, _∙_}
 use mathlib.Core.Logic.{_≢_}
-use mathlib.Core.Bool.{Bool, true, false, not}
+use mathlib.Core.Bool.{Bool, not}
 use mathlib.Core.List.{List}
 use native.Mathlib.Omega.{arith}
-use lib.ListN.{length, getD, set, length-set}
+use lib.ListN.{getD, set, length-set}
 use lib.Seq.{getD-set-same, getD-set-other}
 use Rattle.rule.specs.declared.Pair.{Pair}
 use Rattle.rule.specs.Tree.{Tree, none, fork}
 use Rattle.rule.specs.Changes.{Cut}
-use Rattle.rule.specs.Cells.{perSlot, Fits, freeOf, pairAt, sonAt, linkCell, putPair, putFree}
+use Rattle.rule.specs.Cells.{perSlot, freeOf, pairAt, sonAt, linkCell, putFree, treeAt}
 use Rattle.rule.specs.Sound.{nowhere}
-use Rattle.rule.proofs.Order.{pair-ext}
-use Rattle.rule.proofs.Standing.{Stands, at-top}
-use Rattle.rule.proofs.Agreement.{Agree, agree-same, agree-cell, Wrote, pair-wrote, pair-read, pair-left, pair-right, same-slot, slot-fits, leads-reads, leads-slot, leads-frame, holds-agree, free-wrote, free-read}
-use Rattle.changes.proofs.Links.{link-slot, link-low, link-high, link-other, link-son, agree-cells}
-use Rattle.hole.specs.Hole.{Place, released, Freed}
-use Rattle.hole.proofs.Forks.{forkOn, top-on, Reads-on, on-reads, leads-on, stands-here, stands-near, Distinct-on, distinct-on, cutOn}
-
--- agreement on a slot, cell by cell
-pub agree-get : {c d : List ℕ} (j : ℕ) → Agree c d (j / perSlot) → getD d j 0 ≡ getD c j 0
-agree-get j h = agree-cell h j (j - j / perSlot * perSlot) (omega arith) (omega arith)
-
--- one cell written
-pub cell-agree : (c : List ℕ) (i v s : ℕ) → i / perSlot ≢ s → Agree c (set c i v) s
-cell-agree c i v s n = agree-cells s (λ j e. getD-set-other c i j v 0 (λ z. n (sym (ap (λ k. k / perSlot) z) ∙ e)))
-
--- c′ is c, with the pair q in slot s
-pub record Paired (c : List ℕ) (s : ℕ) (q : Pair) (c′ : List ℕ) : Type 0 where
-  pub wrote : Wrote c c′ s
-  pub pair : pairAt c′ s ≡ q
-  pub son : (left : Bool) → sonAt c′ s left ≡ sonAt c s left
+use Rattle.rule.proofs.Leads.{back, tree-within, leads-tree}
+use Rattle.rule.proofs.Standing.{at-top}
+use Rattle.rule.proofs.Agreement.{agree-same, slot-fits, leads-reads, holds-agree, free-wrote, free-read}
+use Rattle.changes.proofs.Links.{agree-get, cell-agree}
+use Rattle.changes.proofs.Sides.{Seen, Held, held}
+use Rattle.changes.proofs.Replacing.{Paired, son-inside, son-other, son-apart, son-leads, replaced-up}
+use Rattle.hole.specs.Hole.{placed, Place, released, Freed}
+use Rattle.hole.proofs.Forks.{tree-on, Cut-on}
 
 pub paired-same : (c : List ℕ) (s : ℕ) → Paired c s (pairAt c s) c
-paired-same c s = record { wrote = record { long = refl; rest = λ u n. agree-same }; pair = refl; son = λ left. refl }
+paired-same c s = record { wrote = record { long = refl; rest = λ u n. agree-same }; pair = refl; link = λ left. refl }
 
-put-son : (c : List ℕ) (s : ℕ) (q : Pair) (left : Bool) → sonAt (putPair c s q) s left ≡ sonAt c s left
-unfolding sonAt
-put-son c s q true = pair-left c s q
-put-son c s q false = pair-right c s q
+-- the son's place on a side, read a level less deep, where the slot has got the pair q
+module _ {c c′ : List ℕ} (n : ℕ) {cell : ℕ} (o : Place c cell (placed c (suc n) cell)) (ne : getD c cell 0 ≢ 0) (deep : n ≢ 0) (left : Bool) {q : Pair}
+    (w : Paired c (getD c cell 0) q c′) where
+  abbrev s : ℕ
+  s = getD c cell 0
 
-pub paired-put : (c : List ℕ) (s : ℕ) (q : Pair) → Fits c s → Paired c s q (putPair c s q)
-paired-put c s q f = record { wrote = pair-wrote c s q; pair = pair-read c s q f; son = put-son c s q }
+  abbrev u : Tree Pair
+  u = placed c′ (suc (n - 1)) (linkCell s left)
 
-module _ {c c′ : List ℕ} {s cell : ℕ} {q : Pair} (left : Bool) (p : Pair) (u v : Tree Pair) (o : Place c cell (forkOn left s p u v)) (w : Paired c s q c′) where
-  reads : Reads-on c left (getD c cell 0) s p u v
-  reads = on-reads left s p u v (o .leads)
+  abbrev v : Tree Pair
+  v = treeAt c n (sonAt c s (not left))
 
-  apart : Distinct-on s u v
-  apart = distinct-on left s p u v (o .distinct)
+  S : Held c cell s (treeAt c n (sonAt c s left)) v left
+  S = held (tree-on c n s left ne) (o .leads) (o .distinct) (o .apart) (o .other)
 
-  outside : (j : ℕ) → j / perSlot ≢ s → getD c′ j 0 ≡ getD c j 0
-  outside j n = agree-get j (w .wrote .rest (j / perSlot) n)
+  pub son-tree : u ≡ treeAt c n (sonAt c s left)
+  son-tree = leads-tree c′ (suc (n - 1)) (son-leads S w) (rw (back n deep) (tree-within c n (sonAt c s left)))
+
+  pub seen : Seen s (pairAt c s) u v left (placed c (suc n) cell)
+  seen = rw son-tree (tree-on c n s left ne)
 
   -- law: the son's place
   pub son-place : Place c′ (linkCell s left) u
-  son-place =
-      let k = reads in
-      let d = apart in
-      let f = slot-fits (k .slot) in
-      let i = k .slot .some in
-      let a = link-low s left in
-      let b = link-high s left in
-      let e = w .wrote .long in
-      record {
-        inside = omega arith;
-        leads = rw (link-son c′ s left, w .son left) (leads-frame (w .wrote .long) (k .near) (λ x m. w .wrote .rest x (λ z. d .not-near (rw z at m))));
-        distinct = d .near;
-        apart = λ m. d .not-near (rw (link-slot s left) at m);
-        other = omega arith;
-      }
+  son-place = rw son-tree (record { inside = son-inside S w; leads = son-leads S w; distinct = S .distinct .left; apart = son-apart S w; other = son-other S w })
 
-  not-here : cell / perSlot ≢ s
-  not-here e = o .apart (rw e (stands-here left s p u v))
-
-  module _ (cut : Cut Pair) (d : List ℕ) (h : Freed c′ (linkCell s left) u cut d) where
-    long : length d ≡ length c
-    long = h .place .long ∙ w .wrote .long
-
-    -- a cell of another slot that is none of u's
-    kept : (j : ℕ) → j / perSlot ≢ s → j ≢ 2 → (Stands (j / perSlot) u → ⊥) → getD d j 0 ≡ getD c j 0
-    kept j n t m = h .place .rest j (λ e. n (ap (λ i. i / perSlot) e ∙ link-slot s left)) t m ∙ outside j n
-
-    -- a cell of the slot, but for the link to u
-    own : (j : ℕ) → j / perSlot ≡ s → j ≢ linkCell s left → getD d j 0 ≡ getD c′ j 0
-    own j e n = let i = reads .slot .some in h .place .rest j n (omega arith) (λ m. apart .not-near (rw e at m))
-
-    own-pair : pairAt d s ≡ q
-    own-pair =
-        let a = link-low s left in
-        pair-ext (own (s * perSlot) (omega arith) (omega arith)) (own (s * perSlot + 1) (omega arith) (omega arith)) ∙ w .pair
-
-    far-link : sonAt d s (not left) ≡ sonAt c s (not left)
-    far-link =
-        sym (link-son d s (not left)) ∙ own (linkCell s (not left)) (link-slot s (not left)) (link-other s left)
-        ∙ link-son c′ s (not left) ∙ w .son (not left)
-
-    far-agree : (x : ℕ) → Stands x v → Agree c d x
-    far-agree x m =
-        let i = leads-slot v (reads .far) m .some in
-        agree-cells x (λ j e. kept j (λ z. apart .not-far (rw (sym e ∙ z) at m)) (omega arith) (λ k. apart .across x (rw e at k) m))
-
-    -- law: what is freed there is freed here
-    pub freed-on : Freed c cell (forkOn left s p u v) (cutOn left s q cut v) d
-    freed-on =
-        let k = reads in
-        let i = k .slot .some in
-        record {
-          place = record {
-            long = long;
-            link = kept cell not-here (o .other) (λ m. o .apart (stands-near left s p u v m)) ∙ k .here ∙ sym (top-on left s q (cut .tree) v);
-            leads = rw (top-on left s q (cut .tree) v) (leads-on left s q (cut .tree) v (same-slot long (k .slot)) own-pair
-                (rw (← (link-son d s left), h .place .link) (h .place .leads)) (rw far-link (leads-frame long (k .far) far-agree)));
-            rest = λ j n t m. kept j (λ e. m (rw e (stands-here left s p u v))) t (λ z. m (stands-near left s p u v z));
-          };
-          first = h .first;
-          given = rw (outside 2 (omega arith)) at (h .given);
-        }
+  -- law: what is freed there is freed here
+  pub freed-on : {near whole : Cut Pair} {d : List ℕ} → Cut-on left s q v near whole → Freed c′ (linkCell s left) u near d → Freed c cell (placed c (suc n) cell) whole d
+  freed-on k h = record {
+    place = replaced-up S w (rw son-tree at (h .place)) (S .distinct .not-left) (S .out .near) (S .distinct .across) (k .tree) (tree-on c n s left ne);
+    first = h .first ∙ sym (k .slot);
+    given = rw (k .slot, ← (w .wrote .rest 0 (omega (arith, S .slot .some)) .left)) (h .given);
+  }
 
 -- a slot with no sons is released
 module _ {c : List ℕ} {s cell : ℕ} {p : Pair} (o : Place c cell (fork s p none none)) where

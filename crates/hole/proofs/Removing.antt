@@ -11,21 +11,22 @@ use lib.ListN.{getD}
 use borrow.Author.Tests.{eq-eqb, ltb-true, ltb-false}
 use Rattle.rule.specs.declared.Pair.{Pair}
 use Rattle.rule.specs.Stripe.{Stripe, In, Low, rootStripe, middle, partOf}
-use Rattle.rule.specs.Tree.{Tree, fork, Mem, here, Well}
+use Rattle.rule.specs.Tree.{Tree, Mem, here}
 use Rattle.rule.specs.Changes.{fill, takeOut}
-use Rattle.rule.specs.Cells.{Fits, pairAt, leftAt, rightAt, sonAt, linkCell, treeAt}
+use Rattle.rule.specs.Cells.{Fits, pairAt, sonAt, linkCell, treeAt}
 use Rattle.rule.specs.Sound.{itself}
 use Rattle.rule.proofs.Tests.{on}
 use Rattle.rule.proofs.Order.{pair-ext}
 use Rattle.rule.proofs.Levels.{levels}
 use Rattle.rule.proofs.Trees.{all-at, well-in}
 use Rattle.rule.proofs.Stripes.{low-part}
-use Rattle.rule.proofs.Leads.{back, tree-none, tree-fork, tree-within, leads-tree, leads-fits}
+use Rattle.rule.proofs.Leads.{back, tree-none, tree-fork, leads-tree, leads-fits}
+use Rattle.changes.proofs.Sides.{Seen}
 use Rattle.hole.specs.declared.Removal.{Removal}
 use Rattle.hole.specs.declared.Removal.the-variants.{Done, Missing, Other}
-use Rattle.hole.specs.Hole.{placed, Place, Hole, Freed, Looking, Removed, missing, other, done, Reached, Found}
-use Rattle.hole.proofs.Forks.{forkOn, tree-on, mem-near, mem-on, partOn, Well-on, well-on, out-on}
-use Rattle.hole.proofs.Holes.{paired-same, son-place, freed-on}
+use Rattle.hole.specs.Hole.{placed, Hole, Freed, Looking, Removed, missing, other, done, Reached, Found}
+use Rattle.hole.proofs.Forks.{tree-on, mem-near, mem-on, partOn, Well-on, well-on, out-on}
+use Rattle.hole.proofs.Holes.{paired-same, seen, son-place, freed-on}
 
 -- the part of a stripe on x's side
 narrower : (left : Bool) (at : Stripe) (k : ℕ) → at .upper ≤ at .lower + 2 ^ suc k → partOn left at .upper ≤ partOn left at .lower + 2 ^ k
@@ -46,21 +47,18 @@ outer false at x e i = let l = ltb-false x (middle at) e in let f = i .to in ome
 
 module _ {c : List ℕ} {n cell : ℕ} {at : Stripe} {p : Pair} (o : Looking c n cell at p) where
   -- law: an empty place
-  pub none-here : getD c cell 0 ≡ 0 → Removed c cell (placed c (suc n) cell) at p Missing c
+  none-here : getD c cell 0 ≡ 0 → Removed c cell (placed c (suc n) cell) at p Missing c
   none-here z = rw (tree-none c (suc n) (getD c cell 0) z) (missing (λ q m e. elim m [ ]))
 
   module _ (ne : getD c cell 0 ≢ 0) where
     pub met-fits : Fits c (getD c cell 0)
     met-fits = leads-fits c (o .place .leads) ne
 
-    pub met-hole : Hole c (suc n) cell
-    met-hole = record { place = o .place; there = ne }
-
     here-mem : Mem (pairAt c (getD c cell 0)) (placed c (suc n) cell)
     here-mem = rw (tree-fork c n (getD c cell 0) ne) (here refl)
 
     -- law: x with another y
-    pub other-here : {q : Pair} → q ≡ pairAt c (getD c cell 0) → q .x ≡ p .x → q .y ≢ p .y → Removed c cell (placed c (suc n) cell) at p Other c
+    other-here : {q : Pair} → q ≡ pairAt c (getD c cell 0) → q .x ≡ p .x → q .y ≢ p .y → Removed c cell (placed c (suc n) cell) at p Other c
     other-here e ex ny = other (pairAt c (getD c cell 0)) here-mem (rw e at ex) (rw e at ny)
 
     out-here : pairAt c (getD c cell 0) .x ≡ p .x → takeOut itself (p .x) at (placed c (suc n) cell) ≡ fill itself (placed c (suc n) cell)
@@ -68,55 +66,38 @@ module _ {c : List ℕ} {n cell : ℕ} {at : Stripe} {p : Pair} (o : Looking c n
     out-here e = rw (tree-fork c n (getD c cell 0) ne, eq-eqb (pairAt c (getD c cell 0) .x) (p .x) e)
 
     -- law: the pair itself
-    pub done-here : {q : Pair} {d : List ℕ} → q ≡ pairAt c (getD c cell 0) → q .x ≡ p .x → q .y ≡ p .y
+    done-here : {q : Pair} {d : List ℕ} → q ≡ pairAt c (getD c cell 0) → q .x ≡ p .x → q .y ≡ p .y
         → Freed c cell (placed c (suc n) cell) (fill itself (placed c (suc n) cell)) d → Removed c cell (placed c (suc n) cell) at p Done d
     done-here {d = d} e ex ey f =
         let z : pairAt c (getD c cell 0) ≡ p = sym e ∙ pair-ext ex ey in
         done {d = d} (rw z at here-mem) (rw (out-here (ap (λ q. q .x) z)) f)
 
-    -- law: two x are in the stripe
-    deep : In rootStripe (p .x) → pairAt c (getD c cell 0) .x ≢ p .x → n ≢ 0
-    deep b nx z =
-        let w : Well itself at (fork (getD c cell 0) (pairAt c (getD c cell 0)) (treeAt c n (leftAt c (getD c cell 0))) (treeAt c n (rightAt c (getD c cell 0)))) = rw (tree-fork c n (getD c cell 0) ne) at (o .well) in
-        let h : at .upper ≤ at .lower + 1 = rw z at (o .narrow) in
-        let i = w .inside in
-        let j = o .within b in
-        nx (omega arith)
+    here-in : In at (pairAt c (getD c cell 0) .x)
+    here-in = well-on at (tree-on c n (getD c cell 0) true ne) (o .well) .inside
 
-    -- law: so it has room for both
-    pub two-in : In rootStripe (p .x) → pairAt c (getD c cell 0) .x ≢ p .x → at .lower + 2 ≤ at .upper
-    two-in b nx =
-        let w : Well itself at (fork (getD c cell 0) (pairAt c (getD c cell 0)) (treeAt c n (leftAt c (getD c cell 0))) (treeAt c n (rightAt c (getD c cell 0)))) = rw (tree-fork c n (getD c cell 0) ne) at (o .well) in
-        let i = w .inside in
-        let j = o .within b in
-        let f = i .from in
-        let t = i .to in
-        omega (arith, nx)
+    -- law: two x are in the stripe
+    two-in : In rootStripe (p .x) → pairAt c (getD c cell 0) .x ≢ p .x → at .lower + 2 ≤ at .upper
+    two-in b nx = let i = here-in in let j = o .within b in omega (arith, nx)
+
+    -- law: so there is a level below
+    deep : In rootStripe (p .x) → pairAt c (getD c cell 0) .x ≢ p .x → n ≢ 0
+    deep b nx z = let h : at .upper ≤ at .lower + 1 = rw z at (o .narrow) in omega (arith, two-in b nx)
 
     module _ (b : In rootStripe (p .x)) (nx : pairAt c (getD c cell 0) .x ≢ p .x) (left : Bool) (side : ltb (p .x) (middle at) ≡ left) where
       abbrev s : ℕ
       s = getD c cell 0
 
       abbrev u : Tree Pair
-      u = treeAt c n (sonAt c s left)
+      u = placed c (suc (n - 1)) (linkCell s left)
 
       abbrev v : Tree Pair
       v = treeAt c n (sonAt c s (not left))
 
-      here-tree : placed c (suc n) cell ≡ forkOn left s (pairAt c s) u v
-      here-tree = tree-on c n s left ne
-
-      here-place : Place c cell (forkOn left s (pairAt c s) u v)
-      here-place = rw here-tree at (o .place)
+      slot-seen : Seen s (pairAt c s) u v left (placed c (suc n) cell)
+      slot-seen = seen n (o .place) ne (deep b nx) left (paired-same c s)
 
       here-well : Well-on left at (pairAt c s) u v
-      here-well = well-on left at s (pairAt c s) u v (rw here-tree at (o .well))
-
-      next-place : Place c (linkCell s left) u
-      next-place = son-place left (pairAt c s) u v here-place (paired-same c s)
-
-      next-tree : placed c (suc (n - 1)) (linkCell s left) ≡ u
-      next-tree = leads-tree c (suc (n - 1)) (next-place .leads) (rw (back n (deep b nx)) (tree-within c n (sonAt c s left)))
+      here-well = well-on at slot-seen (o .well)
 
       next-low : Low (partOn left at)
       unfolding partOf
@@ -124,43 +105,36 @@ module _ {c : List ℕ} {n cell : ℕ} {at : Stripe} {p : Pair} (o : Looking c n
 
       next-looking : Looking c (n - 1) (linkCell s left) (partOn left at) p
       next-looking = record {
-        place = rw next-tree next-place;
-        well = rw next-tree (here-well .near);
+        place = son-place n (o .place) ne (deep b nx) left (paired-same c s);
+        well = here-well .near;
         low = next-low;
         narrow = narrower left at (n - 1) (rw (back n (deep b nx)) (o .narrow));
         within = λ w. inner left at (p .x) side (o .within w);
       }
 
-      on-removed : {r : Removal} {d : List ℕ} → Removed c (linkCell s left) u (partOn left at) p r d → Removed c cell (forkOn left s (pairAt c s) u v) at p r d
+      on-removed : {r : Removal} {d : List ℕ} → Removed c (linkCell s left) u (partOn left at) p r d → Removed c cell (placed c (suc n) cell) at p r d
       on-removed (missing f) = missing (λ q m e. ⊎-elim (λ z. nx (sym (ap (λ q. q .x) z) ∙ e)) (λ k. ⊎-elim (λ a. f q a e)
           (λ b. let i : In (partOn (not left) at) (q .x) = all-at _ (well-in itself (partOn (not left) at) v (here-well .far)) b in
           outer left at (p .x) side (rw e at i)) k)
-          (mem-on left s (pairAt c s) u v m))
-      on-removed (other q m e k) = other q (mem-near left s (pairAt c s) u v m) e k
+          (mem-on slot-seen m))
+      on-removed (other q m e k) = other q (mem-near slot-seen m) e k
       on-removed (done {d = d} m h) =
-          done {d = d} (mem-near left s (pairAt c s) u v m)
-          (rw (out-on left (p .x) at s (pairAt c s) u v side nx)
-          (freed-on left (pairAt c s) u v here-place (paired-same c s) (takeOut itself (p .x) (partOn left at) u) d h))
+          done {d = d} (mem-near slot-seen m) (freed-on n (o .place) ne (deep b nx) left (paired-same c s) (out-on (p .x) at slot-seen side nx) h)
 
     -- law: on to the son on x's side
     module _ (b : p .x < rootStripe .upper) {q : Pair} (eq : q ≡ pairAt c (getD c cell 0)) (nx : q .x ≢ p .x) where
       small : In rootStripe (p .x)
       small = record { from = omega arith; to = b }
 
-      pub deeper : n ≢ 0
-      deeper = deep small (rw eq at nx)
-
       module _ {left : Bool} (el : left ≡ ltb (p .x) (middle at)) {son : ℕ} (es : son ≡ linkCell (getD c cell 0) left) {at′ : Stripe} (ea : at′ ≡ partOf at (p .x)) where
-        pub looking-on : Looking c (n - 1) son at′ p
+        looking-on : Looking c (n - 1) son at′ p
         unfolding partOf
         looking-on = rw (ea, es, ← el) (next-looking small (rw eq at nx) left (sym el))
 
         -- law: what it ends with there it ends with here
-        pub removed-on : {r : Removal} {d : List ℕ} → Removed c son (placed c (suc (n - 1)) son) at′ p r d → Removed c cell (placed c (suc n) cell) at p r d
+        removed-on : {r : Removal} {d : List ℕ} → Removed c son (placed c (suc (n - 1)) son) at′ p r d → Removed c cell (placed c (suc n) cell) at p r d
         unfolding partOf
-        removed-on h =
-            let x = rw eq at nx in
-            rw (here-tree small x left (sym el)) (on-removed small x left (sym el) (rw (ea, es, ← el, next-tree small x left (sym el)) at h))
+        removed-on h = on-removed small (rw eq at nx) left (sym el) (rw (ea, es, ← el) at h)
 
 -- law: the search starts at the root
 pub start : {c : List ℕ} {at : Stripe} {p : Pair} → Looking c 32 1 rootStripe p → at ≡ rootStripe → Reached c 1 at p
