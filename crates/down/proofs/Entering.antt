@@ -1,5 +1,4 @@
--- A pair that enters a sound pool: it goes down from the root, and the count moves. What is above the place where it first changes
--- something can be passed over.
+-- A pair that enters a sound pool: it goes down from the root, past all above the place where it first changes something, and the count moves.
 use Prim.Native.Nat.{ℕ, zero, suc, _+_, _<_}
 use mathlib.Core.Path.{_≡_, refl, sym, _∙_}
 use mathlib.Core.Logic.{_≢_}
