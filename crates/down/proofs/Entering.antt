@@ -1,5 +1,5 @@
 -- A pair that enters a sound pool: it goes down from the root, past all above the place where it first changes something, and the count moves.
-use Prim.Native.Nat.{ℕ, zero, suc, _+_, _<_}
+use Prim.Native.Nat.{ℕ, suc, _+_, _<_}
 use mathlib.Core.Path.{_≡_, refl, sym, _∙_}
 use mathlib.Core.Logic.{_≢_}
 use mathlib.Core.Bool.{Bool, true, false}
@@ -11,7 +11,7 @@ use Rattle.rule.specs.declared.Pair.{Pair}
 use Rattle.rule.specs.Plain.{hasX}
 use Rattle.rule.specs.Pairs.{beats}
 use Rattle.rule.specs.Stripe.{Stripe, rootStripe, middle, partOf}
-use Rattle.rule.specs.Tree.{Tree, none, fork, size, Within}
+use Rattle.rule.specs.Tree.{size}
 use Rattle.rule.specs.Changes.{met}
 use Rattle.rule.specs.Cells.{rootOf, freeOf, countOf, pairAt, sonAt, linkCell, stored, treeAt}
 use Rattle.rule.specs.Sound.{Sound, Leads, lowLevels, allLevels, itself}
@@ -19,7 +19,7 @@ use Rattle.rule.specs.Laid.{inserted}
 use Rattle.rule.proofs.Tests.{on, clash}
 use Rattle.rule.proofs.Stripes.{low-root}
 use Rattle.rule.proofs.Trees.{all-map, all-mem, New}
-use Rattle.rule.proofs.Leads.{tree-fork, tree-within, leads-tree, leads-son}
+use Rattle.rule.proofs.Leads.{within-more, tree-fork, tree-deeper, leads-son}
 use Rattle.rule.proofs.Levels.{root-levels}
 use Rattle.rule.proofs.Halving.{mem-met, new-unmet}
 use Rattle.rule.proofs.Having.{hasX-true, true-hasX}
@@ -103,18 +103,10 @@ reached-root {c} {p} {at} s b ea =
       whole = λ n. entered n b ea;
     }
 
-within-more : (k : ℕ) (t : Tree Pair) → Within k t → Within (suc k) t
-within-more k none h = tt
-within-more zero (fork s p l r) h = absurd h
-within-more (suc k) (fork s p l r) h = (within-more k l (h .0), within-more k r (h .1))
-
 -- a place that is read one level deeper than there is need
 module _ {c : List ℕ} (k : ℕ) where
-  deeper-tree : {s : ℕ} → Leads c s (treeAt c k s) → treeAt c (suc k) s ≡ treeAt c k s
-  deeper-tree {s} l = leads-tree c (suc k) l (within-more k (treeAt c k s) (tree-within c k s))
-
   deeper-sought : {s : ℕ} {at : Stripe} → Sought c k s at → Sought c (suc k) s at
-  deeper-sought o = record { leads = rw (deeper-tree (o .leads)) (o .leads); low = o .low }
+  deeper-sought o = record { leads = rw (tree-deeper c k _ (o .leads)) (o .leads); low = o .low }
 
   deeper-going : {cell : ℕ} {at : Stripe} {p : Pair} → Going c k cell at p → Going c (suc k) cell at p
   deeper-going g = record {
@@ -129,14 +121,14 @@ module _ {c : List ℕ} (k : ℕ) where
     elsewhere = g .elsewhere;
     other = g .other;
     down = g .down;
-    levels = within-more k (g .after) (g .levels);
+    levels = within-more k (suc k) (g .after) (omega arith) (g .levels);
     low = g .low;
   }
 
   son-smaller : {s : ℕ} (b : Bool) → Leads c s (treeAt c (suc k) s) → (s ≡ 0 → ⊥) → size (treeAt c (suc k) (sonAt c s b)) < size (treeAt c (suc k) s)
   unfolding sonAt
-  son-smaller {s} true l ne = rw (deeper-tree (leads-son c k s true l ne), tree-fork c k s ne) (omega arith)
-  son-smaller {s} false l ne = rw (deeper-tree (leads-son c k s false l ne), tree-fork c k s ne) (omega arith)
+  son-smaller {s} true l ne = rw (tree-deeper c k _ (leads-son c k s true l ne), tree-fork c k s ne) (omega arith)
+  son-smaller {s} false l ne = rw (tree-deeper c k _ (leads-son c k s false l ne), tree-fork c k s ne) (omega arith)
 
 -- on past a pair that p does not beat
 module _ {c : List ℕ} {cell : ℕ} {at : Stripe} {p q : Pair} {t : Bool} (R : Reached c p cell at) (ne : getD c cell 0 ≡ 0 → ⊥) (eq : q ≡ pairAt c (getD c cell 0))
@@ -156,7 +148,7 @@ module _ {c : List ℕ} {cell : ℕ} {at : Stripe} {p q : Pair} {t : Bool} (R : 
 
   -- the son's place, read as deep as any
   same-tree : treeAt c allLevels (getD c cell′ 0) ≡ treeAt c lowLevels (getD c cell′ 0)
-  same-tree = deeper-tree lowLevels (next .leads)
+  same-tree = tree-deeper c lowLevels _ (next .leads)
 
   shallower : {d : List ℕ} → Carried c allLevels cell′ at′ p d → Carried c lowLevels cell′ at′ p d
   shallower h = record { place = rw same-tree at (h .place); first = h .first }

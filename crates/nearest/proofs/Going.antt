@@ -16,11 +16,10 @@ use Rattle.rule.specs.Stripe.{Stripe}
 use Rattle.rule.specs.Tree.{Tree, none, size}
 use Rattle.rule.specs.Walks.{seen}
 use Rattle.rule.proofs.Best.{Ranks}
-use Rattle.rule.proofs.Leads.{tree-none}
+use Rattle.rule.proofs.Leads.{tree-none, within-more}
 use Rattle.questions.specs.Walking.{foundAt}
 use Rattle.nearest.specs.Nearer.{Nearer}
 use Rattle.nearest.specs.Waiting.{Place, place, treeOf, after, since, inTurn, slotsAt, Stands, Stand, Going}
-use Rattle.nearest.proofs.Places.{within-more}
 use Rattle.nearest.proofs.Sides.{Sons}
 use Rattle.nearest.proofs.Turns.{after-none, since-end, too-high, visited}
 

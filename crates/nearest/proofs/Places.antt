@@ -1,5 +1,5 @@
 -- The place where a walk is and the places that wait: what it relies on there, and at the sons that it asks.
-use Prim.Native.Nat.{ℕ, zero, suc, _-_, _≤_}
+use Prim.Native.Nat.{ℕ, _≤_}
 use mathlib.Core.Path.{_≡_, refl, sym}
 use mathlib.Core.Bool.{Bool, true, false, cond}
 use mathlib.Core.List.{List}
@@ -10,30 +10,19 @@ use Rattle.rule.specs.declared.Walked.{Walked}
 use Rattle.rule.specs.Cells.{treeAt}
 use Rattle.rule.specs.Sound.{Leads, lowLevels, allLevels, nowhere}
 use Rattle.rule.specs.Stripe.{Stripe, Low}
-use Rattle.rule.specs.Tree.{Tree, none, fork, size, Within}
-use Rattle.rule.proofs.Leads.{tree-none, tree-within, leads-tree}
+use Rattle.rule.specs.Tree.{Tree, none, size, Within}
+use Rattle.rule.proofs.Leads.{tree-none, tree-deeper}
 use Rattle.rule.specs.Walks.{seen, ask}
 use Rattle.nearest.specs.Waiting.{place, Stands}
 
--- a tree has no more levels than are allowed to it
-pub within-more : (j k : ℕ) (t : Tree Pair) → j ≤ k → Within j t → Within k t
-within-more j k none h w = tt
-within-more zero k (fork s p l r) h w = absurd w
-within-more (suc j) zero (fork s p l r) h w = absurd (omega arith)
-within-more (suc j) (suc k) (fork s p l r) h w = (within-more j k l (omega arith) (w .0), within-more j k r (omega arith) (w .1))
-
 module _ (c : List ℕ) where
-  -- a son's tree is all that its link leads to
-  whole : (s : ℕ) → Leads c s (treeAt c lowLevels s) → treeAt c allLevels s ≡ treeAt c lowLevels s
-  whole s o = leads-tree c allLevels o (within-more lowLevels allLevels (treeAt c lowLevels s) (omega arith) (tree-within c lowLevels s))
-
   -- a son that is asked, or none
   asked-leads : (go : Bool) (s : ℕ) → Leads c s (treeAt c lowLevels s) → Leads c (cond go s 0) (treeAt c allLevels (cond go s 0))
-  asked-leads true s o = rw (whole s o) o
+  asked-leads true s o = rw (tree-deeper c lowLevels s o) o
   asked-leads false s o = rw (tree-none c allLevels 0 refl) nowhere
 
   asked-within : (go : Bool) (s j : ℕ) → Leads c s (treeAt c lowLevels s) → Within j (treeAt c lowLevels s) → Within j (treeAt c allLevels (cond go s 0))
-  asked-within true s j o w = rw (whole s o) w
+  asked-within true s j o w = rw (tree-deeper c lowLevels s o) w
   asked-within false s j o w = rw (tree-none c allLevels 0 refl) tt
 
   -- law: a son that is asked stands a level lower
@@ -43,12 +32,12 @@ module _ (c : List ℕ) where
 
   -- law: and has no more slots than it has
   pub asked-size : (go : Bool) (s : ℕ) → Leads c s (treeAt c lowLevels s) → size (treeAt c allLevels (cond go s 0)) ≤ size (treeAt c lowLevels s)
-  asked-size true s o = rw (whole s o) (omega arith)
+  asked-size true s o = rw (tree-deeper c lowLevels s o) (omega arith)
   asked-size false s o = rw (tree-none c allLevels 0 refl) (omega arith)
 
   module _ (W : Stripe → Tree Pair → Walked) (empty : (at : Stripe) → W at none ≡ seen Nothing 0) where
     -- law: a walk from it is a son's walk, asked or not
     pub asked-walk : (go : Bool) (s : ℕ) (at : Stripe) → Leads c s (treeAt c lowLevels s)
         → ask go (W at (treeAt c lowLevels s)) ≡ W at (treeAt c allLevels (cond go s 0))
-    asked-walk true s at o = rw (whole s o)
+    asked-walk true s at o = rw (tree-deeper c lowLevels s o)
     asked-walk false s at o = rw (tree-none c allLevels 0 refl) (sym (empty at))

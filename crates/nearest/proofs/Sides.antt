@@ -16,11 +16,11 @@ use Rattle.rule.specs.Stripe.{Stripe, middle, leftPart, rightPart}
 use Rattle.rule.specs.Tree.{Tree, none, fork, size, Within}
 use Rattle.rule.specs.Walks.{seen, ask, byX, smallestX, largestX}
 use Rattle.rule.proofs.Best.{Ranks, by-smaller, by-larger}
-use Rattle.rule.proofs.Leads.{tree-fork, leads-son}
+use Rattle.rule.proofs.Leads.{within-more, tree-fork, leads-son}
 use Rattle.rule.proofs.Stripes.{low-left, low-right}
 use Rattle.nearest.specs.Asking.{leftAsked, rightAsked}
 use Rattle.nearest.specs.Waiting.{Place, place, treeOf, Stands}
-use Rattle.nearest.proofs.Places.{within-more, asked-walk, asked-stands, asked-size}
+use Rattle.nearest.proofs.Places.{asked-walk, asked-stands, asked-size}
 
 -- what both x walks have: nothing on an empty tree, and a closer x that ranks
 pub record ByX (W : Stripe → Tree Pair → Walked) (closer : Pair → Pair → Bool) : Type 0 where

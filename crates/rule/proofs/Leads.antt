@@ -1,5 +1,5 @@
 -- The tree that a link leads to is the one that is read from the cells, and no other.
-use Prim.Native.Nat.{ℕ, zero, suc, _-_, _^_, _<_}
+use Prim.Native.Nat.{ℕ, zero, suc, _-_, _^_, _≤_, _<_}
 use mathlib.Core.Path.{_≡_, refl, _∙_}
 use mathlib.Core.Bool.{Bool, true, false}
 use mathlib.Core.List.{List}
@@ -16,6 +16,13 @@ use Rattle.rule.proofs.Tests.{on}
 -- the code's `n - 1` and the definitions' `suc`
 pub back : (n : ℕ) → (n ≡ 0 → ⊥) → suc (n - 1) ≡ n
 back n h = omega arith
+
+-- a tree that is within so many levels is within more
+pub within-more : {A : Type 0} (j k : ℕ) (t : Tree A) → j ≤ k → Within j t → Within k t
+within-more j k none h w = tt
+within-more zero k (fork s p l r) h w = absurd w
+within-more (suc j) zero (fork s p l r) h w = absurd (omega arith)
+within-more (suc j) (suc k) (fork s p l r) h w = (within-more j k l (omega arith) (w .0), within-more j k r (omega arith) (w .1))
 
 module _ (c : List ℕ) where
   pub tree-none : (k s : ℕ) → s ≡ 0 → treeAt c k s ≡ none
@@ -41,6 +48,10 @@ module _ (c : List ℕ) where
   leads-tree zero (slot o l r) w = absurd w
   leads-tree (suc k) (slot {s = s} o l r) w =
       tree-fork k s (λ e. omega (arith, o .some)) ∙ (λ i. fork s (pairAt c s) (leads-tree k l (w .0) i) (leads-tree k r (w .1) i))
+
+  -- and one level deeper than that there is no more to read
+  pub tree-deeper : (k s : ℕ) → Leads c s (treeAt c k s) → treeAt c (suc k) s ≡ treeAt c k s
+  tree-deeper k s o = leads-tree (suc k) o (within-more k (suc k) (treeAt c k s) (omega arith) (tree-within k s))
 
   -- a link leads to one tree
   pub leads-one : {s : ℕ} {t u : Tree Pair} → Leads c s t → Leads c s u → t ≡ u
