@@ -12,13 +12,19 @@ const NEWLINE: u8 = 10;
 // How many reads are made at most.
 const READS: u64 = 18446744073709551615;
 
-// Where the next line starts in the input, and how many bytes the output holds.
-struct Place {
-    from: usize,
-    held: usize,
+// How many bytes the output holds, and whether all before them could be written.
+struct Held {
+    bytes: usize,
+    open: bool,
 }
 
-// How many bytes of a line are kept, and whether there may be more to read.
+// Where the next line starts in the input, and what the output holds.
+struct Place {
+    from: usize,
+    held: Held,
+}
+
+// How many bytes of a line are kept, and whether to go on.
 struct Left {
     kept: usize,
     more: bool,
@@ -32,23 +38,37 @@ fn flush(output: &[u8], held: usize) -> bool
 }
 
 // A line is answered behind what the output holds, which is written first where there may be no room.
-fn answer(cells: &mut [u32], room: &mut [u32], line: &[u8], output: &mut [u8], held: usize) -> usize
+fn answer(cells: &mut [u32], room: &mut [u32], line: &[u8], output: &mut [u8], held: usize) -> Held
     requires { ⌜ held ≤ length (now output) ⌝ }
-    ensures { λ r. ⌜ r ≤ length (now (output .entry)) ⌝ }
+    ensures { λ r. ⌜ r .bytes ≤ length (now (output .entry)) ⌝ }
 {
     let behind = script::answer_line(cells, room, line, &mut output[held..]);
     if let Told::Bytes(n) = behind {
-        return held + n;
+        return Held {
+            bytes: held + n,
+            open: true,
+        };
     }
-    flush(output, held);
+    if !flush(output, held) {
+        return Held {
+            bytes: 0,
+            open: false,
+        };
+    }
     let first = script::answer_line(cells, room, line, output);
     match first {
-        Told::Bytes(n) => n,
-        Told::Short => 0,
+        Told::Bytes(n) => Held {
+            bytes: n,
+            open: true,
+        },
+        Told::Short => Held {
+            bytes: 0,
+            open: true,
+        },
     }
 }
 
-// The lines that end within the first bytes of the input.
+// The lines that end within the first bytes of the input, as long as the output can be written.
 fn answer_lines(
     cells: &mut [u32],
     room: &mut [u32],
@@ -57,16 +77,19 @@ fn answer_lines(
     output: &mut [u8],
 ) -> Place
     requires { ⌜ to ≤ length (now input) ⌝ }
-    ensures { λ r. ⌜ (r .from ≤ to) × (r .held ≤ length (now (output .exit))) ⌝ }
+    ensures { λ r. ⌜ (r .from ≤ to) × (r .held .bytes ≤ length (now (output .exit))) ⌝ }
 {
     let mut from = 0;
-    let mut held = 0;
-    loop {
+    let mut held = Held {
+        bytes: 0,
+        open: true,
+    };
+    while held.open {
         let end = scan::find(input, from, to, NEWLINE);
         if end == to {
             break;
         }
-        held = answer(cells, room, &input[from..end], output, held);
+        held = answer(cells, room, &input[from..end], output, held.bytes);
         from = end + 1;
     }
     Place { from, held }
@@ -88,7 +111,17 @@ fn keep(input: &mut [u8], from: usize, to: usize) -> usize
     i
 }
 
-// What is read goes behind the kept bytes; the lines that end in it are answered.
+// What the output holds is written, if all before it could be; the answer says whether it was.
+fn finish(output: &[u8], held: Held) -> bool
+    requires { ⌜ held .bytes ≤ length (now output) ⌝ }
+{
+    if !held.open {
+        return false;
+    }
+    flush(output, held.bytes)
+}
+
+// What is read goes behind the kept bytes; the lines that end in it are answered. Where that cannot be written nothing is kept.
 fn turn(
     cells: &mut [u32],
     room: &mut [u32],
@@ -106,10 +139,16 @@ fn turn(
     }
     let to = kept + got;
     let p = answer_lines(cells, room, input, to, output);
-    let written = flush(output, p.held);
+    let held = p.held;
+    if !finish(output, held) {
+        return Left {
+            kept: 0,
+            more: false,
+        };
+    }
     Left {
         kept: keep(input, p.from, to),
-        more: written,
+        more: true,
     }
 }
 
@@ -136,7 +175,7 @@ fn run(cells: &mut [u32], room: &mut [u32], input: &mut [u8], output: &mut [u8])
         return;
     }
     let held = answer(cells, room, &input[..kept], output, 0);
-    flush(output, held);
+    finish(output, held);
 }
 
 fn main() {

@@ -6,8 +6,8 @@ use borrow.Author.Needs.{needs}
 use Rattle.taps.proofs.answer.Statement.{statement}
 use Rattle.taps.proofs.answer.Tie as tie
 
-add-result : tie.Need-add-result
-add-result c = let h = told-within _ _ _ _ _ _ _ _ _ (c .before .before .before .before .before .before .before .before .before .answer-line .ensures) (c .before .behind .given .1) (c .before .before .before .before .before .before .before .before .before .answer-line .kept .1 .1 .1 .0) in search needs
+add-t18 : tie.Need-add-t18
+add-t18 c = let h = told-within _ _ _ _ _ _ _ _ _ (c .before .before .before .before .before .before .before .before .before .answer-line .ensures) (c .before .behind .given .1) (c .before .before .before .before .before .before .before .before .before .answer-line .kept .1 .1 .1 .0) in search needs
 
 returns : tie.Need-returns
 returns c =
@@ -15,11 +15,11 @@ returns c =
     part-within (p17 .args .output .now) _ _ (p17 .pre) (told-within _ _ _ _ _ _ _ _ _ (p9 .answer-line .ensures) (p1 .behind .given .1) (p9 .answer-line .kept .1 .1 .1 .0))
 
 -- the output is as long as it was
-as-long : tie.Need-same-length-6
+as-long : tie.Need-same-length-9
 as-long c = search needs
 
-returns-2 : tie.Need-returns-2
-returns-2 c =
+returns-3 : tie.Need-returns-3
+returns-3 c =
     let p1 = c .before in let p9 = p1 .before .before .before .before .before .before .before .before in
     let k = p9 .answer-line2 .kept .1 .1 .1 .0 in
     let h = told-within _ _ _ _ _ _ _ _ _ (p9 .answer-line2 .ensures) (p1 .first .given .1) k in
@@ -35,20 +35,24 @@ answer-spec =
     (λ c. search needs)
     (λ c κs. search needs)
     (λ c. search needs)
-    add-result
+    add-t18
     (λ c. search needs)
     (λ c. search needs)
     (λ c. search needs)
     returns
     (λ c. search needs)
     (λ c κs. search needs)
+    (λ c. search needs)
+    (λ c. search needs)
+    (λ c. search needs)
+    (λ c. search needs)
     (λ c κs. search needs)
     (λ c. search needs)
     (λ c. search needs)
     (λ c. search needs)
     (λ c. search needs)
-    (λ c. search needs)
-    returns-2
+    as-long
+    returns-3
     (λ c. search needs)
     (λ c. search needs)
     (λ c. search needs)

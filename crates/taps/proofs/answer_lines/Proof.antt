@@ -5,13 +5,14 @@ use native.Mathlib.Omega.{arith}
 use lib.ListN.{length}
 use borrow.Author.Needs.{needs}
 use mathlib.Core.List.{List}
+use Rattle.taps.specs.declared.Held.{Held}
 use Rattle.taps.proofs.answer_lines.Statement.{statement}
 use Rattle.taps.proofs.answer_lines.Tie as tie
 
 -- what stays so at each line: no slice changes its length, and the two places lie within theirs
-record Within (cells₀ room₀ : List ℕ) (to : ℕ) (output₀ cells room output : List ℕ) (from held : ℕ) : Type 0 where
+record Within (cells₀ room₀ : List ℕ) (to : ℕ) (output₀ cells room output : List ℕ) (from : ℕ) (held : Held) : Type 0 where
   from-to : from ≤ to
-  held-within : held ≤ length output₀
+  held-within : held .bytes ≤ length output₀
   cells-same : length cells ≡ length cells₀
   room-same : length room ≡ length room₀
   output-same : length output ≡ length output₀
@@ -27,32 +28,45 @@ loop-holds c = record { from-to = omega arith; held-within = omega arith; cells-
 
 find-requires : tie.Need-find-requires Inv-loop μ-loop
 find-requires c κs =
-    let p5 = c .before .before .before .before .before in
-    (c .loop .inv .from-to, p5 .pre)
+    let p1 = c .before in let p6 = p1 .before .before .before .before .before in
+    (p1 .loop .inv .from-to, p6 .pre)
 
 answer-requires : tie.Need-answer-requires Inv-loop μ-loop
-answer-requires c κs = let h = c .before .before .before .before .before .before .loop .inv .held-within in let l = c .before .before .before .before .before .before .loop .inv .output-same in omega (arith, h, l)
+answer-requires c κs =
+    let p7 = c .before .before .before .before .before .before .before in
+    let h = p7 .loop .inv .held-within in let l = p7 .loop .inv .output-same in omega (arith, h, l)
 
 add-from : tie.Need-add-from Inv-loop μ-loop
-add-from c = let h = c .before .before .before .before .before .before .before .before .before .before .before .before .find .ensures .1 in let q = c .before .before .before .before .before .before .before .before .before .before .before .before .before .before .before .before .before .before .pre in search needs
+add-from c =
+    let p6 = c .before .before .before .before .before .before in let p12 = p6 .before .before .before .before .before .before in let p19 = p12 .before .before .before .before .before .before .before in
+    let h = p12 .find .ensures .1 in let q = p19 .pre in search needs
 
 loop-less : tie.Need-loop-less Inv-loop μ-loop
-loop-less c = let h = c .before .before .before .before .before .before .before .before .before .before .before .before .find .ensures .1 in let n = c .before .before .before .before .before .before .before .before .before .before .before .if1 .left in let g = c .before .before .before .before .before .before .before .before .before .before .before .before .find .ensures .0 in omega (arith, h, n, g)
+loop-less c =
+    let p6 = c .before .before .before .before .before .before in let p11 = p6 .before .before .before .before .before in let p12 = p11 .before in
+    let h = p12 .find .ensures .1 in let n = p11 .if1 .left in let g = p12 .find .ensures .0 in omega (arith, h, n, g)
 
 loop-again : tie.Need-loop-again Inv-loop μ-loop
-loop-again c = let h = c .before .before .before .before .before .before .before .before .before .before .before .before .find .ensures .1 in let n = c .before .before .before .before .before .before .before .before .before .before .before .if1 .left in record { from-to = omega (arith, h, n); held-within = let a = c .before .before .before .before .before .before .answer .ensures in let l = c .before .before .before .before .before .before .before .before .before .before .before .before .before .loop .inv .output-same in omega (arith, a, l); cells-same = c .before .before .before .before .before .before .answer .kept .0 ∙ c .before .before .before .before .before .before .before .before .before .before .before .before .before .loop .inv .cells-same; room-same = c .before .before .before .before .before .before .answer .kept .1 .0 ∙ c .before .before .before .before .before .before .before .before .before .before .before .before .before .loop .inv .room-same; output-same = c .before .before .before .before .before .before .answer .kept .1 .1 .1 .0 ∙ c .before .before .before .before .before .before .before .before .before .before .before .before .before .loop .inv .output-same }
-
-same-length : tie.Need-same-length Inv-loop μ-loop
-same-length c = c .before .before .loop .inv .cells-same
-
-same-length-2 : tie.Need-same-length-2 Inv-loop μ-loop
-same-length-2 c = c .before .before .loop .inv .room-same
-
-same-length-3 : tie.Need-same-length-3 Inv-loop μ-loop
-same-length-3 c = c .before .before .loop .inv .output-same
+loop-again c =
+    let p6 = c .before .before .before .before .before .before in let p11 = p6 .before .before .before .before .before in let p12 = p11 .before in let p14 = p12 .before .before in
+    let h = p12 .find .ensures .1 in let n = p11 .if1 .left in let a = p6 .answer .ensures in let l = p14 .loop .inv .output-same in
+    record {
+      from-to = omega (arith, h, n);
+      held-within = omega (arith, a, l);
+      cells-same = p6 .answer .kept .0 ∙ p14 .loop .inv .cells-same;
+      room-same = p6 .answer .kept .1 .0 ∙ p14 .loop .inv .room-same;
+      output-same = p6 .answer .kept .1 .1 .1 .0 ∙ l;
+    }
 
 returns : tie.Need-returns Inv-loop μ-loop
-returns c = let h = c .before .before .loop .inv .held-within in let l = c .before .before .loop .inv .output-same in (c .before .before .loop .inv .from-to, omega (arith, h, l))
+returns c =
+    let p1 = c .before in
+    let h = p1 .loop .inv .held-within in let l = p1 .loop .inv .output-same in (p1 .loop .inv .from-to, omega (arith, h, l))
+
+returns-2 : tie.Need-returns-2 Inv-loop μ-loop
+returns-2 c =
+    let p3 = c .before .before .before in
+    let h = p3 .loop .inv .held-within in let l = p3 .loop .inv .output-same in (p3 .loop .inv .from-to, omega (arith, h, l))
 
 pub answer-lines-spec : {M : Type 1} → statement M
 answer-lines-spec =
@@ -69,7 +83,11 @@ answer-lines-spec =
     add-from
     loop-less
     loop-again
-    same-length
-    same-length-2
-    same-length-3
-    returns)
+    (λ c. c .before .loop .inv .cells-same)
+    (λ c. c .before .loop .inv .room-same)
+    (λ c. c .before .loop .inv .output-same)
+    returns
+    (λ c. c .before .before .before .loop .inv .cells-same)
+    (λ c. c .before .before .before .loop .inv .room-same)
+    (λ c. c .before .before .before .loop .inv .output-same)
+    returns-2)
