@@ -125,7 +125,8 @@ uint32_t drecerunya_smallest_y(const uint32_t *pool, size_t len, uint32_t x0, ui
 
 /*
  * Lists the pairs with x0 <= x <= x1 and y <= y1 into `out`: x and y of each, two cells a pair, from its start. Its room is
- * out_len / 2 pairs, rounded down. They come in the order of the tree, a pair before those that it beats, and not by x.
+ * out_len / 2 pairs, rounded down. They come in the order of the walk, a slot before those below it and the left side before the
+ * right: neither by x nor by y.
  * Codes: 0 all are listed, with count (0 where nothing matches) and visits; 10 there are more matches than room: the first
  * ones fill it, count is the room, with visits; 1 wrong length; 2 not sound; 3 x0 > x1.
  * Writes: the answer; under 0 and 10 the first 2 * count cells of `out`.

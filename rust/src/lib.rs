@@ -28,7 +28,7 @@
 //! assert_eq!(drecerunya::open(&mut pool, 7, 9, 4), Answer::Refused(Refusal::FULL));
 //! ```
 //!
-//! Every call accepts any slice and any numbers. It checks the whole pool first, so a slice that was never set up, or that was
+//! Every call accepts any slice and any numbers. All but [`set_up`] check the whole pool first, so a slice that was never set up, or that was
 //! damaged, is refused and never followed. A refusal changes no cell and no byte. Nothing here panics or allocates.
 //!
 //! # Linking
@@ -273,7 +273,8 @@ pub fn smallest_y(pool: &[u32], x0: u32, x1: u32) -> Answer {
 }
 
 /// The pairs with x0 ≤ x ≤ x1 and y ≤ y1, x and y of each from the start of `out` ([`pairs`] reads them), as many as it has
-/// room for: half its length, rounded down. They come in the order of the tree, a pair before those that it beats, and not by x.
+/// room for: half its length, rounded down. They come in the order of the walk, a slot before those below it and the left side
+/// before the right: neither by x nor by y.
 /// Refused: `LENGTH`, `UNSOUND`, `BACKWARDS`.
 pub fn listing(pool: &[u32], x0: u32, x1: u32, y1: u32, out: &mut [u32]) -> Answer {
     Answer::of_listed(calls::listing(pool, x0, x1, y1, out))

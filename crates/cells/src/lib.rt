@@ -25,7 +25,7 @@ pub fn root(pool: &[u32]) -> u32
     requires { ⌜ Fits (now pool) 0 ⌝ }
     ensures { λ r. ⌜ r ≡ rootOf (now (pool .entry)) ⌝ }
 {
-    pool[1]
+    pool[ROOT_CELL]
 }
 
 pub fn first_free(pool: &[u32]) -> u32

@@ -14,7 +14,7 @@ pub fn met(pool: &[u32], levels: u32, slot: u32, at: Stripe, x: u32) -> bool
 {
     let mut place = slot;
     let mut part = at;
-    let mut left = levels;
+    let mut remaining = levels;
     loop {
         if place == 0 {
             break false;
@@ -25,6 +25,6 @@ pub fn met(pool: &[u32], levels: u32, slot: u32, at: Stripe, x: u32) -> bool
         }
         place = cells::son(pool, place, part.goes_left(x));
         part = part.towards(x);
-        left -= 1;
+        remaining -= 1;
     }
 }

@@ -11,7 +11,7 @@ use Rattle.rule.specs.Stripe.{Stripe, rootStripe}
 use Rattle.rule.specs.Tree.{Tree, members, size, Mem, here, in-left, in-right}
 use Rattle.rule.specs.Changes.{takeOut}
 use Rattle.rule.specs.Cells.{freeOf, countOf, freeMark, stored}
-use Rattle.rule.specs.Sound.{itself, Sound}
+use Rattle.rule.specs.Sound.{itself, Sound, lowLevels, allLevels}
 use Rattle.rule.proofs.Tests.{on}
 use Rattle.rule.proofs.Members.{members-mem, apart-same}
 use Rattle.rule.proofs.Having.{hasX-true, true-hasX, has-true, true-has}
@@ -71,7 +71,7 @@ module _ {c : List ℕ} (s : Sound c) where
   header-out m = omega (arith, tree-slot s m .some)
 
   -- law: a sound pool can be searched from the root's cell
-  pub looking-root : {p : Pair} → Looking c 32 1 rootStripe p
+  pub looking-root : {p : Pair} → Looking c lowLevels 1 rootStripe p
   looking-root =
       let f = header-fits (s .pool) in
       let t = sound-tree c s in
@@ -89,7 +89,7 @@ module _ {c : List ℕ} (s : Sound c) where
         within = λ w. w;
       }
 
-  module _ {p : Pair} {r : Removal} {d : List ℕ} (R : Removed c 1 (placed c 33 1) rootStripe p r d) where
+  module _ {p : Pair} {r : Removal} {d : List ℕ} (R : Removed c 1 (placed c allLevels 1) rootStripe p r d) where
     removed : Removed c 1 (s .tree) rootStripe p r d
     removed = rw (sound-tree c s) at R
 

@@ -14,7 +14,7 @@ use Rattle.rule.specs.Stripe.{Stripe, In, Low, rootStripe, middle, partOf}
 use Rattle.rule.specs.Tree.{Tree, Mem, here}
 use Rattle.rule.specs.Changes.{fill, takeOut}
 use Rattle.rule.specs.Cells.{Fits, pairAt, sonAt, linkCell, treeAt}
-use Rattle.rule.specs.Sound.{itself}
+use Rattle.rule.specs.Sound.{itself, lowLevels, allLevels}
 use Rattle.rule.proofs.Tests.{on}
 use Rattle.rule.proofs.Order.{pair-ext}
 use Rattle.rule.proofs.Levels.{levels}
@@ -137,8 +137,8 @@ module _ {c : List ℕ} {n cell : ℕ} {at : Stripe} {p : Pair} (o : Looking c n
         removed-on h = on-removed small (rw eq at nx) left (sym el) (rw (ea, es, ← el) at h)
 
 -- law: the search starts at the root
-pub start : {c : List ℕ} {at : Stripe} {p : Pair} → Looking c 32 1 rootStripe p → at ≡ rootStripe → Reached c 1 at p
-start o e = rw e (record { levels = 32; looking = o; whole = λ r d h. h })
+pub start : {c : List ℕ} {at : Stripe} {p : Pair} → Looking c lowLevels 1 rootStripe p → at ≡ rootStripe → Reached c 1 at p
+start o e = rw e (record { levels = lowLevels; looking = o; whole = λ r d h. h })
 
 module _ {c : List ℕ} {cell : ℕ} {at : Stripe} {p : Pair} (R : Reached c cell at p) where
   -- law: an empty place
@@ -150,14 +150,14 @@ module _ {c : List ℕ} {cell : ℕ} {at : Stripe} {p : Pair} (R : Reached c cel
   found-met e ex = record { at = at; reached = R; met = λ ne. rw e at ex }
 
   -- the place's tree, read as deep as any
-  whole-tree : placed c 33 cell ≡ placed c (suc (R .levels)) cell
+  whole-tree : placed c allLevels cell ≡ placed c (suc (R .levels)) cell
   whole-tree =
       let o = R .looking in
       let l = o .low in
-      leads-tree c 33 (o .place .leads) (levels itself at 32 (placed c (suc (R .levels)) cell) (o .well) (omega (arith, l)))
+      leads-tree c allLevels (o .place .leads) (levels itself at lowLevels (placed c (suc (R .levels)) cell) (o .well) (omega (arith, l)))
 
   module _ (ne : getD c cell 0 ≢ 0) where
-    pub hole-there : Hole c 33 cell
+    pub hole-there : Hole c allLevels cell
     hole-there = record { place = rw whole-tree (R .looking .place); there = ne }
 
     module _ (b : p .x < rootStripe .upper) {q : Pair} (eq : q ≡ pairAt c (getD c cell 0)) (nx : q .x ≢ p .x) {at′ : Stripe} (ea : at′ ≡ partOf at (p .x)) where
@@ -178,15 +178,15 @@ module _ {c : List ℕ} {cell : ℕ} {at : Stripe} {p : Pair} (R : Reached c cel
 
 -- law: where the place is empty, where another y is met, and where the pair is
 module _ {c : List ℕ} {p : Pair} {cell : ℕ} (F : Found c p cell) where
-  pub ends-missing : getD c cell 0 ≡ 0 → Removed c 1 (placed c 33 1) rootStripe p Missing c
+  pub ends-missing : getD c cell 0 ≡ 0 → Removed c 1 (placed c allLevels 1) rootStripe p Missing c
   ends-missing z = F .reached .whole Missing c (none-here (F .reached .looking) z)
 
   module _ (ne : getD c cell 0 ≢ 0) {q : Pair} (eq : q ≡ pairAt c (getD c cell 0)) where
     same-x : q .x ≡ p .x
     same-x = ap (λ v. v .x) eq ∙ F .met ne
 
-    pub ends-other : q .y ≢ p .y → Removed c 1 (placed c 33 1) rootStripe p Other c
+    pub ends-other : q .y ≢ p .y → Removed c 1 (placed c allLevels 1) rootStripe p Other c
     ends-other ny = F .reached .whole Other c (other-here (F .reached .looking) ne eq same-x ny)
 
-    pub ends-done : {d : List ℕ} → q .y ≡ p .y → Freed c cell (placed c 33 cell) (fill itself (placed c 33 cell)) d → Removed c 1 (placed c 33 1) rootStripe p Done d
+    pub ends-done : {d : List ℕ} → q .y ≡ p .y → Freed c cell (placed c allLevels cell) (fill itself (placed c allLevels cell)) d → Removed c 1 (placed c allLevels 1) rootStripe p Done d
     ends-done {d} ey f = F .reached .whole Done d (done-here (F .reached .looking) ne eq same-x ey (rw (whole-tree (F .reached)) at f))

@@ -13,7 +13,7 @@ use Rattle.rule.specs.Tree.{Tree, Mem, Well}
 use Rattle.rule.specs.Changes.{Cut, takeOut}
 use Rattle.rule.specs.Cells.{perSlot, Fits, freeOf, freeMark, pairAt, leftAt, rightAt, sonAt, linkCell, putPair, putFree, treeAt, stored}
 use Rattle.rule.specs.Laid.{deleted}
-use Rattle.rule.specs.Sound.{Leads, itself}
+use Rattle.rule.specs.Sound.{Leads, itself, allLevels}
 use Rattle.rule.proofs.Agreement.{Holds}
 use Rattle.rule.proofs.Standing.{Stands, Distinct}
 use Rattle.changes.specs.Places.{Replaced}
@@ -91,7 +91,7 @@ pub data Removed (c : List ℕ) (cell : ℕ) (t : Tree Pair) (at : Stripe) (p : 
 pub record Reached (c : List ℕ) (cell : ℕ) (at : Stripe) (p : Pair) : Type 0 where
   pub levels : ℕ
   pub looking : Looking c levels cell at p
-  pub whole : (r : Removal) (d : List ℕ) → Removed c cell (placed c (suc levels) cell) at p r d → Removed c 1 (placed c 33 1) rootStripe p r d
+  pub whole : (r : Removal) (d : List ℕ) → Removed c cell (placed c (suc levels) cell) at p r d → Removed c 1 (placed c allLevels 1) rootStripe p r d
 
 -- the place where p's x is met, or an empty one
 pub record Found (c : List ℕ) (p : Pair) (cell : ℕ) : Type 0 where

@@ -5,7 +5,7 @@ ghost use mathlib.Core.Path.{_≡_};
 ghost use Prim.Native.Nat.{suc};
 ghost use Rattle.rule.specs.Changes.{fill};
 ghost use Rattle.rule.specs.Stripe.{rootStripe};
-ghost use Rattle.rule.specs.Sound.{Sound, itself};
+ghost use Rattle.rule.specs.Sound.{Sound, itself, lowLevels, allLevels};
 ghost use Rattle.hole.specs.Hole.{placed, Sons, Heirs, Promotes, promoted, Releases, released, Hole, Freed, Looking, Removed, Found, Deletes};
 
 // How a deletion ends.
@@ -75,7 +75,7 @@ fn fill(pool: &mut [u32], levels: u32, cell: usize)
 
 // The cell of the link to the slot where x is met from the root, by halving the stripe, or of the empty link where the search ends.
 fn find(pool: &[u32], p: Pair) -> usize
-    requires { ⌜ Looking (now pool) 32 1 rootStripe p ⌝ }
+    requires { ⌜ Looking (now pool) lowLevels 1 rootStripe p ⌝ }
     ensures { λ r. ⌜ Found (now (pool .entry)) p r ⌝ }
 {
     let mut cell = cells::ROOT_CELL;
@@ -96,8 +96,8 @@ fn find(pool: &[u32], p: Pair) -> usize
 
 // Takes p out where its x is met.
 fn remove(pool: &mut [u32], p: Pair) -> Removal
-    requires { ⌜ Looking (now pool) 32 1 rootStripe p ⌝ }
-    ensures { λ r. ⌜ Removed (now (pool .entry)) 1 (placed (now (pool .entry)) 33 1) rootStripe p r (now (pool .exit)) ⌝ }
+    requires { ⌜ Looking (now pool) lowLevels 1 rootStripe p ⌝ }
+    ensures { λ r. ⌜ Removed (now (pool .entry)) 1 (placed (now (pool .entry)) allLevels 1) rootStripe p r (now (pool .exit)) ⌝ }
 {
     let cell = find(pool, p);
     let slot = pool[cell];

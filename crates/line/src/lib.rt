@@ -60,6 +60,7 @@ fn leading_zero(word: &[u8]) -> bool
     word[0] == ZERO
 }
 
+// In 64 bits a number that is too large is seen before it could overflow.
 fn wide(b: u8) -> u64
     ensures { λ r. ⌜ r ≡ b ⌝ }
 {

@@ -6,7 +6,7 @@ use mathlib.Core.List.{List, []}
 use native.Mathlib.Omega.{arith}
 use lib.Dec.{ltb, leb}
 use lib.ListN.{length}
-use borrow.Author.Tests.{lt-ltb, le-ltb, le-leb, lt-leb}
+use borrow.Author.Tests.{lt-ltb, le-ltb, le-leb}
 use Rattle.rule.specs.declared.Limits.{Limits}
 use Rattle.rule.specs.declared.Pair.{Pair}
 use Rattle.rule.specs.Cells.{pairAt, leftAt, rightAt, treeAt}
@@ -14,7 +14,7 @@ use Rattle.rule.specs.Plain.{limits, inRange, matches}
 use Rattle.rule.specs.Stripe.{Stripe, middle, leftPart, rightPart}
 use Rattle.rule.specs.Tree.{size}
 use Rattle.rule.specs.Walks.{Listed, listed, andThen, listOwn, listing, roomOf}
-use Rattle.rule.proofs.Tests.{on, and-false}
+use Rattle.rule.proofs.Tests.{on}
 use Rattle.rule.proofs.Leads.{back, tree-none, tree-fork}
 use Rattle.rule.proofs.Sizes.{listing-size}
 use Rattle.listing.specs.Listing.{putOne, putAll, Put, Lists}
@@ -22,23 +22,19 @@ use Rattle.questions.proofs.Finding.{not-lt}
 use Rattle.listing.proofs.Filling.{Fills, fills, fills-own, fills-ask, own-visits, same-room, still-fits, stopped, goes-on, left-over, lists-stopped, lists-then, lists-nothing}
 
 -- a slot's own pair
-module _ (o : List ℕ) (n x0 x1 : ℕ) (p : Pair) where
+module _ (o : List ℕ) (n x0 x1 : ℕ) (p : Pair) {g : Bool} (eg : g ≡ inRange x0 x1 p) where
   abbrev Own : List ℕ → ℕ → Type 0
   Own o′ n′ = Put o n (listOwn (inRange x0 x1 p) (roomOf o - n) p) o′ n′
 
-  unlisted : inRange x0 x1 p ≡ false → Own o n
+  pub own-out : g ≡ false → Own o n
   unfolding putAll
-  unlisted e = rw e (record { count = omega arith; cells = refl })
+  own-out f =
+      let e : inRange x0 x1 p ≡ false = sym eg ∙ f in
+      rw e (record { count = omega arith; cells = refl })
 
-  pub own-low : p .x < x0 → Own o n
-  own-low h = unlisted (rw (lt-leb x0 (p .x) h))
-
-  pub own-high : x1 < p .x → Own o n
-  own-high h = unlisted (and-false (leb x0 (p .x)) (leb (p .x) x1) (lt-leb (p .x) x1 h))
-
-  module _ (a : x0 ≤ p .x) (b : p .x ≤ x1) (r : ℕ) (er : r ≡ roomOf o) where
+  module _ (t : g ≡ true) (r : ℕ) (er : r ≡ roomOf o) where
     inside : inRange x0 x1 p ≡ true
-    inside = rw (le-leb x0 (p .x) a, le-leb (p .x) x1 b)
+    inside = sym eg ∙ t
 
     pub own-counted : r ≤ n → Own o (n + 1)
     unfolding putAll

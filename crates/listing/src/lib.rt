@@ -1,4 +1,5 @@
 // The listing over a sound pool: the walk counts the matches met so far, which is the place of the next one.
+use questions::in_range;
 use rule::Pair;
 use rule::Stripe;
 ghost use mathlib.Core.Path.{_≡_};
@@ -36,10 +37,7 @@ fn list_own(out: &mut [u32], p: Pair, x0: u32, x1: u32, count: usize) -> usize
     requires { ⌜ count ≤ roomOf (now out) ⌝ }
     ensures { λ r. ⌜ Put (now (out .entry)) count (listOwn (inRange x0 x1 p) (roomOf (now (out .entry)) - count) p) (now (out .exit)) r ⌝ }
 {
-    if p.x < x0 {
-        return count;
-    }
-    if x1 < p.x {
+    if !in_range(p, x0, x1) {
         return count;
     }
     if room_of(out) <= count {

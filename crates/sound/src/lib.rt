@@ -86,7 +86,7 @@ pub enum Health {
     WrongLength,
 }
 
-// The tree and the chain of a pool whose length and mark are right.
+// The mark, the tree and the chain of a pool whose length is right.
 fn is_sound(pool: &[u32]) -> bool
     requires { ⌜ Pool (now pool) ⌝ }
     ensures { λ r. ⌜ r ≡ isSound (now (pool .entry)) ⌝ }

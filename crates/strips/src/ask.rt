@@ -22,7 +22,12 @@ pub fn last_to_end(pool: &[u32], u: u32, e: u32) -> Answer
     if shape::either_over(u, e) {
         return shape::refuse(pool, codes::NO_STRIP);
     }
-    pool::largest_x(pool, u * shape::PER_END, e * shape::PER_END + 65535, u)
+    pool::largest_x(
+        pool,
+        u * shape::PER_END,
+        e * shape::PER_END + shape::LARGEST,
+        u,
+    )
 }
 
 // Of the strips that end in u..v, the one with the earliest start.
@@ -32,5 +37,9 @@ pub fn earliest_start(pool: &[u32], u: u32, v: u32) -> Answer
     if shape::either_over(u, v) {
         return shape::refuse(pool, codes::NO_STRIP);
     }
-    pool::smallest_y(pool, u * shape::PER_END, v * shape::PER_END + 65535)
+    pool::smallest_y(
+        pool,
+        u * shape::PER_END,
+        v * shape::PER_END + shape::LARGEST,
+    )
 }

@@ -11,7 +11,7 @@ ghost use Rattle.sound.specs.Promises.{lengthLine, soundLine};
 ghost use Rattle.strips.specs.Strips.{over, noStrip};
 
 // The largest slot, and the largest number.
-const LARGEST: u32 = 65535;
+pub const LARGEST: u32 = 65535;
 
 // How far apart the x of two ends are.
 pub const PER_END: u32 = 65536;

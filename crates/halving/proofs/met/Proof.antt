@@ -11,11 +11,11 @@ use Rattle.halving.proofs.met.Statement.{statement}
 use Rattle.halving.proofs.met.Tie as tie
 
 abbrev Inv-loop : tie.InvT-loop
-Inv-loop pool levels slot x place₀ part₀ left₀ place part left =
-    Sought pool left place (stripeOf part) × (met itself x (stripeOf part) (treeAt pool left place) ≡ met itself x (stripeOf part₀) (treeAt pool left₀ place₀))
+Inv-loop pool levels slot x place₀ part₀ remaining₀ place part remaining =
+    Sought pool remaining place (stripeOf part) × (met itself x (stripeOf part) (treeAt pool remaining place) ≡ met itself x (stripeOf part₀) (treeAt pool remaining₀ place₀))
 
 abbrev μ-loop : tie.MeasureT-loop
-μ-loop pool levels slot x place₀ part₀ left₀ place part left = left
+μ-loop pool levels slot x place₀ part₀ remaining₀ place part remaining = remaining
 
 loop-holds : tie.Need-loop-holds Inv-loop μ-loop
 loop-holds c = (c .before .pre, refl)
@@ -36,8 +36,8 @@ son-requires c κs =
 towards-requires : tie.Need-towards-requires Inv-loop μ-loop
 towards-requires c κs = c .before .before .before .before .before .before .loop .inv .0 .low
 
-sub-left : tie.Need-sub-left Inv-loop μ-loop
-sub-left c = let d = deep _ _ _ _ 0 (c .before .before .before .before .before .before .before .loop .inv .0) (c .before .before .before .before .before .before .if1 .left) in omega arith
+sub-remaining : tie.Need-sub-remaining Inv-loop μ-loop
+sub-remaining c = let d = deep _ _ _ _ 0 (c .before .before .before .before .before .before .before .loop .inv .0) (c .before .before .before .before .before .before .if1 .left) in omega arith
 
 loop-less : tie.Need-loop-less Inv-loop μ-loop
 loop-less c = let d = deep _ _ _ _ 0 (c .before .before .before .before .before .before .before .loop .inv .0) (c .before .before .before .before .before .before .if1 .left) in omega arith
@@ -68,7 +68,7 @@ met-spec =
     goes-left-requires
     son-requires
     towards-requires
-    sub-left
+    sub-remaining
     loop-less
     loop-again
     returns

@@ -1,40 +1,40 @@
 -- Each way out is one law.
 use native.Mathlib.Omega.{arith}
 use lib.ListN.{length-set}
-use Rattle.listing.proofs.ListWalk.{own-low, own-high, own-counted, own-put}
+use borrow.Author.Tests.{not-true, not-false}
+use Rattle.listing.proofs.ListWalk.{own-out, own-counted, own-put}
 use borrow.Author.Needs.{needs}
 use Rattle.listing.proofs.list_own.Statement.{statement}
 use Rattle.listing.proofs.list_own.Tie as tie
 
 returns : tie.Need-returns
-returns c = own-low _ _ _ _ _ (c .if1 .taken)
+returns c =
+    let p1 = c .before in let p3 = p1 .before .before in
+    own-out _ _ (p3 .args .x0) (p3 .args .x1) (p3 .args .p) (p1 .in-range .ensures) (not-true _ (c .if1 .taken))
 
 returns-2 : tie.Need-returns-2
-returns-2 c = own-high _ _ _ _ _ (c .if2 .taken)
+returns-2 c =
+    let p1 = c .before in let p3 = p1 .before .before in let p4 = p3 .before in let p6 = p4 .before .before in
+    own-counted _ _ (p6 .args .x0) (p6 .args .x1) (p6 .args .p) (p4 .in-range .ensures) (not-false _ (p3 .if1 .left)) _ (p1 .room-of .ensures) (c .if2 .taken)
+
+slice-write-out-2 : tie.Need-slice-write-out-2
+slice-write-out-2 c = simp length-set (omega (arith, c .before .room-of .ensures, c .if2 .left))
 
 returns-3 : tie.Need-returns-3
 returns-3 c =
-    let p1 = c .before in let p3 = p1 .before .before in let p5 = p3 .before .before in
-    own-counted _ _ _ _ _ (p5 .if1 .left) (p3 .if2 .left) _ (p1 .room-of .ensures) (c .if3 .taken)
-
-slice-write-out-2 : tie.Need-slice-write-out-2
-slice-write-out-2 c = simp length-set (omega (arith, c .before .room-of .ensures, c .if3 .left))
-
-returns-4 : tie.Need-returns-4
-returns-4 c =
-    let p1 = c .before in let p3 = p1 .before .before in let p5 = p3 .before .before in
-    own-put _ _ _ _ _ (p5 .if1 .left) (p3 .if2 .left) _ (p1 .room-of .ensures) (c .if3 .left)
+    let p1 = c .before in let p3 = p1 .before .before in let p4 = p3 .before in let p6 = p4 .before .before in
+    own-put _ _ (p6 .args .x0) (p6 .args .x1) (p6 .args .p) (p4 .in-range .ensures) (not-false _ (p3 .if1 .left)) _ (p1 .room-of .ensures) (c .if2 .left)
 
 pub list-own-spec : {M : Type 1} → statement M
 list-own-spec =
     tie.close
     (tie.spec
+    (λ c κs. search needs)
     returns
-    returns-2
     (λ c κs. search needs)
     (λ c. search needs)
     (λ c. search needs)
-    returns-3
+    returns-2
     (λ c. search needs)
     (λ c. search needs)
     (λ c. search needs)
@@ -43,4 +43,4 @@ list-own-spec =
     slice-write-out-2
     (λ c. search needs)
     (λ c. search needs)
-    returns-4)
+    returns-3)
