@@ -1,5 +1,5 @@
 -- The pairs by ascending x: the same pairs, each x larger than the one before; so the smallest x comes first, and then the rest.
-use Prim.Native.Nat.{ℕ, suc, _+_, _≤_, _<_}
+use Prim.Native.Nat.{ℕ, suc, _+_, _≤_}
 use mathlib.Core.Path.{_≡_, refl, sym, ap, _∙_}
 use mathlib.Core.Logic.{_≢_, _↔_, _⊎_, inl, inr, ⊎-elim}
 use mathlib.Core.List.{List, [], _∷_, map, List·Memᴰ, List·Memᴰ·head, List·Memᴰ·tail, List·Memᴰ·cases-cons}
@@ -8,22 +8,12 @@ use lib.Dec.{ltb, leb}
 use lib.ListN.{length}
 use borrow.Author.Tests.{ltb-true, ltb-false, le-leb, leb-true, leb-false}
 use Rattle.rule.specs.declared.Pair.{Pair}
-use Rattle.rule.specs.Plain.{those}
+use Rattle.rule.specs.Plain.{those, Alike}
 use Rattle.rule.specs.Tree.{Differs, Apart}
 use Rattle.rule.proofs.Tests.{on}
 use Rattle.rule.proofs.Members.{apart-same}
-use Rattle.rule.proofs.Scan.{Alike}
 use Rattle.rule.proofs.Those.{those-mem, those-apart}
-use Rattle.book.specs.Book.{place, byX}
-
--- every x of the list is larger
-abbrev pub Above : ℕ → List Pair → Type 0
-Above x ps = (q : Pair) → List·Memᴰ q ps → x < q .x
-
--- each x is larger than the one before
-abbrev pub Rises : List Pair → Type 0
-Rises [] = Unit {0}
-Rises (p ∷ ps) = Above (p .x) ps × Rises ps
+use Rattle.book.specs.Book.{place, byX, Rises}
 
 place-mem : (p q : Pair) (ps : List Pair) → List·Memᴰ q (place p ps) ↔ ((q ≡ p) ⊎ List·Memᴰ q ps)
 place-mem p q [] = (λ m. ⊎-elim (λ e. inl e) (λ k. elim k [ ]) (List·Memᴰ·cases-cons m), λ h. ⊎-elim (λ e. List·Memᴰ·head e) (λ k. elim k [ ]) h)

@@ -15,14 +15,14 @@ use Rattle.rule.specs.declared.Pair.{Pair}
 use Rattle.rule.specs.declared.Walked.{Walked}
 use Rattle.rule.specs.Cells.{perSlot, isFree, rootOf, storedFrom, stored, treeAt}
 use Rattle.rule.specs.Placed.{placed}
-use Rattle.rule.specs.Plain.{limits, matches, smaller, smallestXOf}
+use Rattle.rule.specs.Plain.{limits, matches, smaller, smallestXOf, Closest}
 use Rattle.rule.specs.Sound.{Sound, allLevels}
 use Rattle.rule.specs.Stripe.{rootStripe}
 use Rattle.rule.specs.Walks.{smallestX}
 use Rattle.rule.proofs.AnyOrder.{smallestX-any}
 use Rattle.rule.proofs.Decided.{sound-well, sound-tree}
 use Rattle.rule.proofs.Placing.{length-placed}
-use Rattle.rule.proofs.Scan.{Closest, smallestXOf-found, smallestXOf-nothing}
+use Rattle.rule.proofs.Scan.{smallestXOf-found, smallestXOf-nothing}
 use Rattle.rule.proofs.Stored.{stored-mem, stored-apart}
 use Rattle.rule.proofs.Tests.{on, clash, both, and-true}
 use Rattle.book.specs.Book.{word, byX, body, bytesFor}

@@ -1,7 +1,7 @@
 -- The stored book: length first, big-endian, a version byte, then the pairs by ascending x.
-use Prim.Native.Nat.{ℕ, _+_, _*_, _/_, _%_}
+use Prim.Native.Nat.{ℕ, _+_, _*_, _/_, _%_, _<_}
 use mathlib.Core.Bool.{cond}
-use mathlib.Core.List.{List, [], _∷_, _++_}
+use mathlib.Core.List.{List, [], _∷_, _++_, List·Memᴰ}
 use lib.Dec.{ltb}
 use lib.ListN.{length}
 use Rattle.rule.specs.declared.Pair.{Pair}
@@ -19,6 +19,15 @@ place p (q ∷ qs) = let rest = place p qs in cond (ltb (p .x) (q .x)) (p ∷ q 
 unfoldable pub byX : List Pair → List Pair
 byX [] = []
 byX (p ∷ ps) = place p (byX ps)
+
+-- every x of the list is larger
+abbrev pub Above : ℕ → List Pair → Type 0
+Above x ps = (q : Pair) → List·Memᴰ q ps → x < q .x
+
+-- the list is by ascending x: each x is smaller than all that follow
+abbrev pub Rises : List Pair → Type 0
+Rises [] = Unit {0}
+Rises (p ∷ ps) = Above (p .x) ps × Rises ps
 
 -- x and y of four bytes each per pair
 abbrev pub body : List Pair → List ℕ

@@ -21,6 +21,7 @@ use Rattle.rule.proofs.Numbers.{five-visits, five-count, refused-numbers}
 use Rattle.rule.proofs.Visits.{smallestX-visits, largestX-visits, smallestY-visits}
 use Rattle.sound.specs.Promises.{lengthLine, soundLine}
 use Rattle.pool.specs.Asking.{treeOf, smallestXAnswer, largestXAnswer, smallestYAnswer, matchesOf, listedBy, listedOf, backwardsLine, listingLeft}
+use Rattle.pool.specs.Showing.{FewVisits}
 
 pub tree-well : (c : List ℕ) → Sound c → Well itself rootStripe (treeOf c)
 tree-well c s = rw (sound-tree c s) (sound-well c s)
@@ -41,20 +42,16 @@ table-visits c ls a n h = on (isPool c)
 reported : (a : Answer) (n : ℕ) → a .visits ≤ n → five a .visits ≤ n
 reported a n h = let k = five-visits a in omega arith
 
--- at most 127 visits, and two more for each pair listed
-abbrev pub Listed : Answer → Type 0
-Listed a = five a .visits ≤ 127 + 2 * five a .count
-
-refusal-bound : (k : ℕ) → Listed (refused k)
+refusal-bound : (k : ℕ) → FewVisits (refused k)
 refusal-bound k = rw (refused-numbers k) (omega arith)
 
-lines-listed : (ls : List Line) (o : List ℕ) (w : Left) → Listed (w .answer) → Listed (leftBy ls o w .answer)
+lines-listed : (ls : List Line) (o : List ℕ) (w : Left) → FewVisits (w .answer) → FewVisits (leftBy ls o w .answer)
 unfolding leftBy
 lines-listed [] o w h = h
 lines-listed (l ∷ ls) o w h = let r = lines-listed ls o w h in on (l .when) (λ t. rw t (refusal-bound (l .code))) (λ f. rw f r)
 
 -- what is listed reports its count
-counted : (n : ℕ) (more : Bool) (v : ℕ) → v ≤ 127 + 2 * n → Listed (listedBy n more v)
+counted : (n : ℕ) (more : Bool) (v : ℕ) → v ≤ 127 + 2 * n → FewVisits (listedBy n more v)
 counted n more v h = let k = five-visits (listedBy n more v) in rw (five-count n more v) (omega arith)
 
 module _ (c : List ℕ) where
@@ -84,7 +81,7 @@ module _ (c : List ℕ) where
 
   -- law: what a table with the pool's own lines reports of a listing, whichever lines stand behind them
   pub listed-bound : (ls : List Line) (q : Limits) (out : List ℕ)
-      → Listed (leftBy (lengthLine c ∷ soundLine c ∷ ls) out (listedOf c q out) .answer)
+      → FewVisits (leftBy (lengthLine c ∷ soundLine c ∷ ls) out (listedOf c q out) .answer)
   unfolding leftBy
   listed-bound ls q out = on (isPool c)
       (λ p. rw p (on (isSound c)
@@ -93,6 +90,6 @@ module _ (c : List ℕ) where
       (λ p. rw p (refusal-bound 1))
 
   -- law: a listing, by the number that it reports
-  pub list-bound : (q : Limits) (out : List ℕ) → Listed (listingLeft c q out .answer)
+  pub list-bound : (q : Limits) (out : List ℕ) → FewVisits (listingLeft c q out .answer)
   unfolding listingLeft
   list-bound q out = listed-bound (backwardsLine (q .x0) (q .x1) ∷ []) q out

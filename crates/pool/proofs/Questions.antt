@@ -2,17 +2,15 @@
 use Prim.Native.Nat.{ℕ, min}
 use mathlib.Core.Path.{_≡_}
 use mathlib.Core.Logic.{_↔_}
-use mathlib.Core.Bool.{true, false, cond}
+use mathlib.Core.Bool.{true, false}
 use mathlib.Core.List.{List, map, List·Memᴰ}
 use lib.Dec.{ltb}
 use lib.ListN.{length, length-take}
 use Rattle.rule.specs.declared.Limits.{Limits}
-use Rattle.rule.specs.declared.Outcome.{Outcome}
-use Rattle.rule.specs.declared.Outcome.the-variants.{Listed, Refused}
+use Rattle.rule.specs.declared.Outcome.the-variants.{Listed}
 use Rattle.rule.specs.declared.Pair.{Pair}
 use Rattle.rule.specs.Cells.{stored}
-use Rattle.rule.specs.Codes as codes
-use Rattle.rule.specs.Plain.{matches, those, smallestXOf, largestXOf, smallestYOf}
+use Rattle.rule.specs.Plain.{matches, those, smallestXOf, largestXOf, smallestYOf, Alike}
 use Rattle.rule.specs.Refusals.{answerBy, leftBy}
 use Rattle.rule.specs.Sound.{Sound, itself}
 use Rattle.rule.specs.Stripe.{rootStripe}
@@ -21,16 +19,12 @@ use Rattle.rule.proofs.Tests.{on}
 use Rattle.rule.proofs.Counts.{those-count}
 use Rattle.rule.proofs.Decided.{true-pool, sound-test, sound-well, sound-tree}
 use Rattle.rule.proofs.Members.{members-mem, well-apart}
-use Rattle.rule.proofs.Scan.{Alike, smallestXOf-alike, largestXOf-alike, smallestYOf-alike}
+use Rattle.rule.proofs.Scan.{smallestXOf-alike, largestXOf-alike, smallestYOf-alike}
 use Rattle.rule.proofs.Stored.{stored-mem, stored-apart}
 use Rattle.rule.proofs.Those.{those-mem, those-apart}
-use Rattle.pool.specs.Asking.{treeOf, outcomeOf, smallestXAnswer, largestXAnswer, smallestYAnswer, matchesOf, listingLeft}
+use Rattle.pool.specs.Asking.{treeOf, outcomeOf, asks, smallestXAnswer, largestXAnswer, smallestYAnswer, matchesOf, listingLeft}
 use Rattle.pool.specs.Showing.{Shows}
 use Rattle.rule.specs.Walks.{roomOf}
-
--- a question's outcome, unless its limits are backwards
-abbrev pub asks : ℕ → ℕ → Outcome → Outcome
-asks x0 x1 o = cond (ltb x1 x0) (Refused codes.backwards) o
 
 module _ {c : List ℕ} (s : Sound c) where
   -- the members of the tree are the stored pairs, each once

@@ -1,6 +1,6 @@
 -- What the four questions answer, for every pool and all numbers: the finding is that of a plain scan of the stored list, the visits are the walk's.
 use Prim.Native.Nat.{ℕ}
-use mathlib.Core.Bool.{Bool}
+use mathlib.Core.Bool.{Bool, cond}
 use mathlib.Core.List.{List, [], _∷_}
 use lib.Dec.{ltb}
 use lib.ListN.{length, take}
@@ -9,7 +9,7 @@ use Rattle.rule.specs.declared.Finding.{Finding}
 use Rattle.rule.specs.declared.Finding.the-variants.{Found as found-pair, Nothing as no-pair}
 use Rattle.rule.specs.declared.Limits.{Limits}
 use Rattle.rule.specs.declared.Outcome.{Outcome}
-use Rattle.rule.specs.declared.Outcome.the-variants.{Found, Nothing, Listed}
+use Rattle.rule.specs.declared.Outcome.the-variants.{Found, Nothing, Listed, Refused}
 use Rattle.rule.specs.declared.Pair.{Pair}
 use Rattle.rule.specs.Cells.{rootOf, stored, treeAt}
 use Rattle.rule.specs.Codes as codes
@@ -29,24 +29,32 @@ treeOf c = treeAt c allLevels (rootOf c)
 abbrev pub backwardsLine : ℕ → ℕ → Line
 backwardsLine x0 x1 = record { code = codes.backwards; when = ltb x1 x0 }
 
+-- a finding as an outcome: a found pair, or nothing
 abbrev pub outcomeOf : Finding → Outcome
 outcomeOf (found-pair p) = Found p
 outcomeOf no-pair = Nothing
+
+-- a question's outcome on a sound pool: refused where x0 > x1
+abbrev pub asks : ℕ → ℕ → Outcome → Outcome
+asks x0 x1 o = cond (ltb x1 x0) (Refused codes.backwards) o
 
 -- a finding, with the visits beside it
 abbrev pub answered : Finding → ℕ → Answer
 answered f v = record { outcome = outcomeOf f; visits = v }
 
+-- smallest x: of the stored pairs with x0 ≤ x ≤ x1 and y ≤ y1, the one with the smallest x; 1, 2 and 3 refuse
 unfoldable pub smallestXAnswer : List ℕ → Limits → Answer
 smallestXAnswer c q =
     answerBy (lengthLine c ∷ soundLine c ∷ backwardsLine (q .x0) (q .x1) ∷ [])
     (answered (smallestXOf q (stored c)) (smallestX q rootStripe (treeOf c) .visits))
 
+-- largest x: of the same pairs, the one with the largest x
 unfoldable pub largestXAnswer : List ℕ → Limits → Answer
 largestXAnswer c q =
     answerBy (lengthLine c ∷ soundLine c ∷ backwardsLine (q .x0) (q .x1) ∷ [])
     (answered (largestXOf q (stored c)) (largestX q rootStripe (treeOf c) .visits))
 
+-- smallest y: of the stored pairs with x0 ≤ x ≤ x1, the one with the smallest y, and on equal y the smaller x; 1, 2 and 3 refuse
 unfoldable pub smallestYAnswer : List ℕ → ℕ → ℕ → Answer
 smallestYAnswer c x0 x1 =
     answerBy (lengthLine c ∷ soundLine c ∷ backwardsLine x0 x1 ∷ [])
@@ -69,5 +77,6 @@ listedOf c q out =
       answer = listedBy (length ps) (ltb (roomOf out) (length (matchesOf c q))) (listing q rootStripe (treeOf c) (roomOf out) .visits);
     }
 
+-- listing: 1, 2 and 3 refuse, and the lent cells stay as they stood; else they hold what is listed, from their start
 unfoldable pub listingLeft : List ℕ → Limits → List ℕ → Left
 listingLeft c q out = leftBy (lengthLine c ∷ soundLine c ∷ backwardsLine (q .x0) (q .x1) ∷ []) out (listedOf c q out)

@@ -1,12 +1,14 @@
--- What a listing shows of a sound pool.
-use Prim.Native.Nat.{ℕ}
+-- What a listing shows of a sound pool, and how many slots a listing may visit.
+use Prim.Native.Nat.{ℕ, _+_, _*_, _≤_}
 use mathlib.Core.Path.{_≡_}
 use mathlib.Core.Logic.{_↔_}
 use mathlib.Core.List.{List, map, List·Memᴰ}
 use lib.Dec.{ltb}
 use lib.ListN.{length, take}
+use Rattle.rule.specs.declared.Answer.{Answer}
 use Rattle.rule.specs.declared.Outcome.the-variants.{Listed}
 use Rattle.rule.specs.declared.Pair.{Pair}
+use Rattle.rule.specs.Answer.{five}
 use Rattle.rule.specs.Cells.{stored}
 use Rattle.rule.specs.Refusals.{Left}
 use Rattle.rule.specs.Tree.{Apart}
@@ -19,3 +21,7 @@ pub record Shows (c out : List ℕ) (Asked : Pair → Type 0) (w : Left) : Type 
   pub once : Apart (map (λ p. p .x) all)
   pub cells : w .cells ≡ written (take (roomOf out) all) out
   pub outcome : w .answer .outcome ≡ Listed (length (take (roomOf out) all)) (ltb (roomOf out) (length all))
+
+-- the bound on a listing: at most 127 visits, and two more for each pair listed
+abbrev pub FewVisits : Answer → Type 0
+FewVisits a = five a .visits ≤ 127 + 2 * five a .count

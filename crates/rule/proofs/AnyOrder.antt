@@ -7,13 +7,13 @@ use lib.Dec.{ltb}
 use lib.ListN.{length}
 use Rattle.rule.specs.declared.Pair.{Pair}
 use Rattle.rule.specs.declared.Limits.{Limits}
-use Rattle.rule.specs.Plain.{matches, those, smallestXOf, largestXOf, smallestYOf}
+use Rattle.rule.specs.Plain.{matches, those, smallestXOf, largestXOf, smallestYOf, Alike}
 use Rattle.rule.specs.Stripe.{Stripe}
 use Rattle.rule.specs.Tree.{Tree, members, Mem, Apart, Well}
 use Rattle.rule.specs.Walks.{smallestX, largestX, smallestY, listing}
 use Rattle.rule.specs.Sound.{itself}
 use Rattle.rule.proofs.Members.{members-mem, well-apart}
-use Rattle.rule.proofs.Scan.{Alike, smallestXOf-alike, largestXOf-alike, smallestYOf-alike}
+use Rattle.rule.proofs.Scan.{smallestXOf-alike, largestXOf-alike, smallestYOf-alike}
 use Rattle.rule.proofs.Counts.{those-count}
 use Rattle.rule.proofs.Lists.{listing-more}
 use Rattle.rule.proofs.Finds.{smallestX-finds, largestX-finds, smallestY-finds}

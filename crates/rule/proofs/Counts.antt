@@ -7,12 +7,11 @@ use mathlib.Core.List.{List, [], _∷_, _++_, map, List·Memᴰ, List·Memᴰ·h
 use native.Mathlib.Omega.{arith}
 use lib.ListN.{length, length-append}
 use Rattle.rule.specs.declared.Pair.{Pair}
-use Rattle.rule.specs.Plain.{those}
+use Rattle.rule.specs.Plain.{those, Alike}
 use Rattle.rule.specs.Tree.{Differs, Apart}
 use Rattle.rule.proofs.Tests.{on}
 use Rattle.rule.proofs.Members.{differs-mem}
 use Rattle.rule.proofs.Lists.{those-append}
-use Rattle.rule.proofs.Scan.{Alike}
 
 -- p stands in the list, between two others
 data Split (p : Pair) : List Pair → Type 0 where

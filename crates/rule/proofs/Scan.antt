@@ -9,30 +9,17 @@ use Rattle.rule.specs.declared.Limits.{Limits}
 use Rattle.rule.specs.declared.Finding.{Finding}
 use Rattle.rule.specs.declared.Finding.the-variants.{Found, Nothing}
 use Rattle.rule.specs.Pairs.{beats}
-use Rattle.rule.specs.Plain.{inRange, matches, own, closest, scan, smaller, larger, smallestXOf, largestXOf, smallestYOf}
+use Rattle.rule.specs.Plain.{inRange, matches, own, closest, scan, smaller, larger, smallestXOf, largestXOf, smallestYOf, Closest, NoMatch}
+pub use Rattle.rule.specs.Plain.{Alike}
 use Rattle.rule.specs.Tree.{Apart}
 use Rattle.rule.proofs.Tests.{on, clash}
 use Rattle.rule.proofs.Best.{Ranks, by-smaller, by-larger, by-beats, closest-nothing, closest-assoc}
 use Rattle.rule.proofs.Members.{apart-same}
 
--- p is the match of the list than which no other is closer
-pub record Closest (ok : Pair → Bool) (closer : Pair → Pair → Bool) (ps : List Pair) (p : Pair) : Type 0 where
-  pub member : List·Memᴰ p ps
-  pub fits : ok p ≡ true
-  pub ahead : (q : Pair) → List·Memᴰ q ps → ok q ≡ true → closer q p ≡ false
-
--- no member matches
-abbrev pub NoMatch : (Pair → Bool) → List Pair → Type 0
-NoMatch ok ps = (p : Pair) → List·Memᴰ p ps → ok p ≡ false
-
 -- what of a list is to be found
 data Finds (ok : Pair → Bool) (closer : Pair → Pair → Bool) (ps : List Pair) : Finding → Type 0 where
   finds-none : NoMatch ok ps → Finds ok closer ps Nothing
   finds-one : {p : Pair} → Closest ok closer ps p → Finds ok closer ps (Found p)
-
--- the same members
-abbrev pub Alike : List Pair → List Pair → Type 0
-Alike ps qs = (p : Pair) → List·Memᴰ p ps ↔ List·Memᴰ p qs
 
 on-cons : (P : Pair → Type 0) {p : Pair} {ps : List Pair} → P p → ((q : Pair) → List·Memᴰ q ps → P q) → (q : Pair) → List·Memᴰ q (p ∷ ps) → P q
 on-cons P h k q (List·Memᴰ·head e) = subst P (sym e) h

@@ -1,7 +1,9 @@
 -- A book as a plain list of pairs, gone through from top to bottom: what each question finds. Nothing of the tree stands here.
 use Prim.Native.Nat.{ℕ}
-use mathlib.Core.Bool.{Bool, false, cond, _&&_, _||_}
-use mathlib.Core.List.{List, [], _∷_}
+use mathlib.Core.Path.{_≡_}
+use mathlib.Core.Logic.{_↔_}
+use mathlib.Core.Bool.{Bool, true, false, cond, _&&_, _||_}
+use mathlib.Core.List.{List, [], _∷_, List·Memᴰ}
 use lib.Dec.{ltb, leb, eqb}
 use Rattle.rule.specs.declared.Pair.{Pair}
 use Rattle.rule.specs.declared.Limits.{Limits}
@@ -70,3 +72,17 @@ hasX x (p ∷ ps) = eqb (p .x) x || hasX x ps
 unfoldable pub has : Pair → List Pair → Bool
 has q [] = false
 has q (p ∷ ps) = (eqb (p .x) (q .x) && eqb (p .y) (q .y)) || has q ps
+
+-- p is a pair of the list that is asked for, and no other such pair is closer
+pub record Closest (ok : Pair → Bool) (closer : Pair → Pair → Bool) (ps : List Pair) (p : Pair) : Type 0 where
+  pub member : List·Memᴰ p ps
+  pub fits : ok p ≡ true
+  pub ahead : (q : Pair) → List·Memᴰ q ps → ok q ≡ true → closer q p ≡ false
+
+-- no pair of the list is asked for
+abbrev pub NoMatch : (Pair → Bool) → List Pair → Type 0
+NoMatch ok ps = (p : Pair) → List·Memᴰ p ps → ok p ≡ false
+
+-- the same pairs stand in both lists, in whatever order
+abbrev pub Alike : List Pair → List Pair → Type 0
+Alike ps qs = (p : Pair) → List·Memᴰ p ps ↔ List·Memᴰ p qs

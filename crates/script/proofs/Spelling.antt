@@ -11,17 +11,12 @@ use Rattle.rule.proofs.Tests.{on, both, and-true}
 use Rattle.line.specs.declared.Asked.{Asked}
 use Rattle.line.specs.declared.Asked.the-variants.{Open, Close, First, Last, Covers, Malformed}
 use Rattle.line.specs.Line.{space, led, words, isDigit, allDigits, value, isNumber, allNumbers, meant, byWords, askedBy}
-use Rattle.line.proofs.Digits.{most, digit-range}
+use Rattle.line.proofs.Digits.{digit-range}
 use Rattle.line.proofs.Words.{some-word}
 use Rattle.text.specs.Text.{decimal}
 use Rattle.text.proofs.Printing.{item-few, append-none}
 use Rattle.text.proofs.Decimal.{decimal-value, decimal-number, decimal-digits, number-decimal}
-use Rattle.script.specs.Spelled.{spaced, numbersOf, spelled}
-
--- every number is one of 32 bits
-abbrev pub AllFit : List ℕ → Type 0
-AllFit [] = Unit {0}
-AllFit (n ∷ ns) = (n ≤ most) × AllFit ns
+use Rattle.script.specs.Spelled.{spaced, numbersOf, spelled, AllFit}
 
 word-then : (w t : List ℕ) → allDigits w ≡ true → words (w ++ (space ∷ t)) ≡ w ∷ words t
 unfolding words allDigits

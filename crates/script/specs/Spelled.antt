@@ -1,5 +1,5 @@
 -- The line that asks for something: its letter, and its numbers in decimal after single spaces.
-use Prim.Native.Nat.{ℕ}
+use Prim.Native.Nat.{ℕ, _≤_}
 use mathlib.Core.List.{List, [], _∷_, _++_}
 use Rattle.line.specs.declared.Asked.{Asked}
 use Rattle.line.specs.declared.Asked.the-variants.{Open, Close, First, Last, Covers, Malformed}
@@ -29,5 +29,11 @@ letterOf (Last u e) = 108
 letterOf (Covers u) = 97
 letterOf Malformed = 0
 
+-- the line: the letter, and each number after a space
 abbrev pub spelled : Asked → List ℕ
 spelled k = letterOf k ∷ spaced (numbersOf k)
+
+-- every number is one of 32 bits
+abbrev pub AllFit : List ℕ → Type 0
+AllFit [] = Unit {0}
+AllFit (n ∷ ns) = (n ≤ 4294967295) × AllFit ns

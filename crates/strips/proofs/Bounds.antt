@@ -4,7 +4,8 @@ use mathlib.Core.List.{List}
 use Rattle.rule.specs.Answer.{five}
 use Rattle.rule.proofs.Visits.{smallestX-visits, largestX-visits, smallestY-visits}
 use Rattle.pool.specs.Asking.{treeOf}
-use Rattle.pool.proofs.Bounds.{tree-well, Listed, table-bound, listed-bound}
+use Rattle.pool.specs.Showing.{FewVisits}
+use Rattle.pool.proofs.Bounds.{tree-well, table-bound, listed-bound}
 use Rattle.strips.specs.Strips.{coversLimits, lastLimits, meetsLimits, containsLimits}
 use Rattle.strips.specs.Promises.{firstToEnd, lastToEnd, earliestStart, listCovers, listMeets, listContains}
 
@@ -23,14 +24,14 @@ module _ (c : List ℕ) where
   earliest-bound u v = table-bound c _ _ 127 (λ s. smallestY-visits (u * 65536) (v * 65536 + 65535) (treeOf c) (tree-well c s))
 
   -- law: the lists
-  pub covers-bound : (u : ℕ) (out : List ℕ) → Listed (listCovers c u out .answer)
+  pub covers-bound : (u : ℕ) (out : List ℕ) → FewVisits (listCovers c u out .answer)
   unfolding listCovers
   covers-bound u out = listed-bound c _ (coversLimits u) out
 
-  pub meets-bound : (u v : ℕ) (out : List ℕ) → Listed (listMeets c u v out .answer)
+  pub meets-bound : (u v : ℕ) (out : List ℕ) → FewVisits (listMeets c u v out .answer)
   unfolding listMeets
   meets-bound u v out = listed-bound c _ (meetsLimits u v) out
 
-  pub contains-bound : (u v : ℕ) (out : List ℕ) → Listed (listContains c u v out .answer)
+  pub contains-bound : (u v : ℕ) (out : List ℕ) → FewVisits (listContains c u v out .answer)
   unfolding listContains
   contains-bound u v out = listed-bound c _ (containsLimits u v) out

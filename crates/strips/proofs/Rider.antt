@@ -14,13 +14,13 @@ use Rattle.rule.specs.declared.Outcome.the-variants.{Found, Nothing}
 use Rattle.rule.specs.declared.Pair.{Pair}
 use Rattle.rule.specs.Cells.{stored}
 use Rattle.rule.specs.Pairs.{beats, lower}
-use Rattle.rule.specs.Plain.{matches, smallestXOf, largestXOf, smallestYOf}
+use Rattle.rule.specs.Plain.{matches, smallestXOf, largestXOf, smallestYOf, Closest, NoMatch}
 use Rattle.rule.specs.Refusals.{answerBy, Left}
 use Rattle.rule.specs.Sound.{Sound}
 use Rattle.rule.proofs.Tests.{on, clash, neither}
 use Rattle.rule.proofs.Decided.{true-pool, sound-test}
 use Rattle.rule.proofs.Order.{true-beats}
-use Rattle.rule.proofs.Scan.{Closest, NoMatch, smallestXOf-found, smallestXOf-nothing, largestXOf-found, largestXOf-nothing, smallestYOf-found, smallestYOf-nothing}
+use Rattle.rule.proofs.Scan.{smallestXOf-found, smallestXOf-nothing, largestXOf-found, largestXOf-nothing, smallestYOf-found, smallestYOf-nothing}
 use Rattle.rule.proofs.Stored.{stored-mem, stored-apart}
 use Rattle.rule.proofs.TakenBack.{member-low}
 use Rattle.pool.specs.Asking.{outcomeOf, listingLeft}
