@@ -44,20 +44,22 @@ pub data Heirs (c : List ℕ) (s : ℕ) : ℕ → Type 0 where
   heir : (left : Bool) → sonAt c s left ≢ 0
       → (sonAt c s (not left) ≢ 0 → beats (pairAt c (leftAt c s)) (pairAt c (rightAt c s)) ≡ left) → Heirs c s (linkCell s left)
 
--- the pair of the slot that a cell links to goes into slot s
+-- what a move up may rely on: slot s, a cell, and the slot that it links to are in the pool
 pub record Promotes (c : List ℕ) (s cell : ℕ) : Type 0 where
   pub to : Fits c s
   pub inside : cell < length c
   pub from : Fits c (getD c cell 0)
 
+-- the pair of the slot that a cell links to stands in slot s
 unfoldable pub promoted : List ℕ → ℕ → ℕ → List ℕ
 promoted c s cell = putPair c s (pairAt c (getD c cell 0))
 
--- slot s is unlinked from a cell, put into the free form, and is the first free slot, pointing to the one that was
+-- what giving up slot s may rely on: it is in the pool, and so is the cell that links to it
 pub record Releases (c : List ℕ) (cell s : ℕ) : Type 0 where
   pub inside : cell < length c
   pub slot : Fits c s
 
+-- slot s is unlinked from a cell, put into the free form, and is the first free slot, pointing to the one that was
 unfoldable pub released : List ℕ → ℕ → ℕ → List ℕ
 released c cell s = set (putFree (set c cell 0) s (freeOf c)) 2 s
 

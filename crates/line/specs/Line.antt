@@ -25,6 +25,7 @@ words (b ∷ bs) = let rest = words bs in cond (eqb b space) ([] ∷ rest) (led 
 abbrev pub isDigit : ℕ → Bool
 isDigit b = leb 48 b && ltb b 58
 
+-- digits alone
 unfoldable pub allDigits : List ℕ → Bool
 allDigits [] = true
 allDigits (b ∷ bs) = isDigit b && allDigits bs
@@ -46,6 +47,7 @@ leadingZero w = leb 2 (length w) && eqb (getD w 0 0) 48
 unfoldable pub isNumber : List ℕ → Bool
 isNumber w = leb 1 (length w) && not (leadingZero w) && allDigits w && leb (value w) 4294967295
 
+-- every word is a number
 abbrev pub allNumbers : List (List ℕ) → Bool
 allNumbers [] = true
 allNumbers (w ∷ ws) = isNumber w && allNumbers ws

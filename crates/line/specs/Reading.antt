@@ -32,6 +32,7 @@ digitsFrom n (b ∷ bs) =
     let rest = digitsFrom m bs in
     cond (isDigit b) (cond (ltb 4294967295 m) Not rest) Not
 
+-- the number that a word is, if it is one
 unfoldable pub numberOf : List ℕ → Number
 numberOf w = numberIf (isNumber w) (value w)
 

@@ -28,10 +28,12 @@ missingLine c p = record { code = codes.missing; when = not (hasX (p .x) (stored
 abbrev pub otherLine : List ℕ → Pair → Line
 otherLine c p = record { code = codes.other; when = hasX (p .x) (stored c) && not (has p (stored c)) }
 
+-- insert: 1, 2, 4 and 5 refuse; else the pair goes down from the root, and the first free slot is taken
 unfoldable pub insertion : List ℕ → Pair → Left
 insertion c p =
     leftBy (lengthLine c ∷ soundLine c ∷ takenLine c p ∷ fullLine c ∷ []) c (record { cells = inserted c p; answer = finished })
 
+-- delete: 1, 2, 6 and 7 refuse; else the hole that the pair leaves is filled, and the slot given up is the first free one
 unfoldable pub deletion : List ℕ → Pair → Left
 deletion c p =
     leftBy (lengthLine c ∷ soundLine c ∷ missingLine c p ∷ otherLine c p ∷ []) c (record { cells = deleted c (p .x); answer = finished })

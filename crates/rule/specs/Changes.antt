@@ -28,6 +28,7 @@ pub data Heir (A : Type 0) : Type 0 where
   neither : Heir A
   left-son right-son : A → Heir A
 
+-- who moves up between two sons: the only one, or the one that beats the other
 abbrev pub heir : {A : Type 0} → (A → Pair) → Tree A → Tree A → Heir A
 heir key none none = neither
 heir key none (fork b v t u) = right-son v

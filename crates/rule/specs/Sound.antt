@@ -42,9 +42,11 @@ lowLevels = 32
 abbrev pub allLevels : ℕ
 allLevels = suc lowLevels
 
+-- a slot of a pool holds a pair and no more: it is its own key
 abbrev pub itself : Pair → Pair
 itself p = p
 
+-- a sound pool, with a field for each clause of 01; `tree` is the tree that its links show, and `free` are the slots of its free chain
 pub record Sound (c : List ℕ) : Type 0 where
   pub pool : Pool c
   pub mark : markOf c ≡ 1

@@ -7,6 +7,7 @@ use Rattle.rule.specs.declared.Pair.{Pair}
 use Rattle.rule.specs.Pairs.{Beats}
 use Rattle.rule.specs.Stripe.{Stripe, In, leftPart, rightPart}
 
+-- an empty place, or a slot: its number, what it holds, and what stands below it on either side
 pub data Tree (A : Type 0) : Type 0 where
   none : Tree A
   fork : (slot : ℕ) (held : A) (left right : Tree A) → Tree A
@@ -57,11 +58,12 @@ abbrev pub Ordered : {A : Type 0} → (A → Pair) → Tree A → Type 0
 Ordered key none = Unit {0}
 Ordered key (fork i p l r) = (Tops key (key p) l × Tops key (key p) r) × Ordered key l × Ordered key r
 
--- no number stands twice in a list
+-- x is none of the list's numbers
 abbrev pub Differs : ℕ → List ℕ → Type 0
 Differs x [] = Unit {0}
 Differs x (z ∷ zs) = (x ≢ z) × Differs x zs
 
+-- no number stands twice in the list
 abbrev pub Apart : List ℕ → Type 0
 Apart [] = Unit {0}
 Apart (x ∷ xs) = Differs x xs × Apart xs

@@ -60,6 +60,7 @@ pub record Listed : Type 0 where
   pub more : Bool
   pub visits : ℕ
 
+-- a listing of these pairs, after so many visits
 abbrev pub listed : List Pair → Bool → ℕ → Listed
 listed ps more v = record { pairs = ps; more = more; visits = v }
 

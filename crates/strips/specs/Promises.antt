@@ -27,12 +27,14 @@ stripLine bad = record { code = codes.noStrip; when = bad }
 abbrev pub orderLine : ℕ → ℕ → Line
 orderLine u v = record { code = codes.backwards; when = ltb v u }
 
+-- open: 1, 2, 9, 4 and 5 refuse; else the strip's pair is inserted
 unfoldable pub opening : List ℕ → ℕ → ℕ → ℕ → Left
 opening c start end number =
     let p : Pair = stripPair start end number in
     leftBy (lengthLine c ∷ soundLine c ∷ stripLine (noStrip start end number) ∷ takenLine c p ∷ fullLine c ∷ []) c
     (record { cells = inserted c p; answer = finished })
 
+-- close: 1, 2, 9, 6 and 7 refuse; else the strip's pair is deleted
 unfoldable pub closing : List ℕ → ℕ → ℕ → ℕ → Left
 closing c start end number =
     let p : Pair = stripPair start end number in
@@ -61,11 +63,14 @@ earliestStart c u v =
 abbrev pub listed : List Line → List ℕ → Limits → List ℕ → Left
 listed lines c q out = leftBy (lengthLine c ∷ soundLine c ∷ lines) out (listedOf c q out)
 
+-- the strips that cover u
 unfoldable pub listCovers : List ℕ → ℕ → List ℕ → Left
 listCovers c u out = listed (stripLine (over u) ∷ []) c (coversLimits u) out
 
+-- the strips that meet u..v
 unfoldable pub listMeets : List ℕ → ℕ → ℕ → List ℕ → Left
 listMeets c u v out = listed (stripLine (over u || over v) ∷ orderLine u v ∷ []) c (meetsLimits u v) out
 
+-- the strips that contain u..v
 unfoldable pub listContains : List ℕ → ℕ → ℕ → List ℕ → Left
 listContains c u v out = listed (stripLine (over u || over v) ∷ orderLine u v ∷ []) c (containsLimits u v) out

@@ -46,15 +46,18 @@ over n = ltb largest n
 abbrev pub noStrip : (start end number : ℕ) → Bool
 noStrip start end number = over start || over end || over number || ltb end start
 
--- the limits of 01's table
+-- 01's limits for the strips that cover u: they end from u on, and start by u
 abbrev pub coversLimits : (u : ℕ) → Limits
 coversLimits u = record { x0 = u * 65536; x1 = 4294967295; y1 = u }
 
+-- for those that cover u and end no later than e
 abbrev pub lastLimits : (u e : ℕ) → Limits
 lastLimits u e = record { x0 = u * 65536; x1 = e * 65536 + 65535; y1 = u }
 
+-- for those that meet u..v: they end from u on, and start by v
 abbrev pub meetsLimits : (u v : ℕ) → Limits
 meetsLimits u v = record { x0 = u * 65536; x1 = 4294967295; y1 = v }
 
+-- for those that contain u..v: they end from v on, and start by u
 abbrev pub containsLimits : (u v : ℕ) → Limits
 containsLimits u v = record { x0 = v * 65536; x1 = 4294967295; y1 = u }
