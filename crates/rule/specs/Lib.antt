@@ -1,5 +1,5 @@
--- What the product means, in reading order: the plain list (Pairs, Plain), the rule (Stripe, Tree, Changes, Walks), the pool (Cells, Sound, Laid),
--- the answer (Codes, Answer, Refusals). Shape, Test and Placed tie the code to these.
+-- What the product means, in reading order: the plain list (Pairs, Plain), the rule (Stripe, Tree, Changes, Walks), the pool (Cells, Sound, Test, Laid),
+-- the answer (Codes, Answer, Refusals). Shape and Placed tie the code to these.
 pub mod Pairs
 pub mod Plain
 pub mod Stripe
