@@ -23,9 +23,8 @@ use Rattle.sound.proofs.Lengths.{odd, short, long}
 use Rattle.sound.proofs.Meaning as meaning
 use Rattle.pool.specs.Changing.{insertion, deletion}
 use Rattle.pool.specs.Asking.{smallestXAnswer, largestXAnswer, smallestYAnswer, listingLeft}
-use Rattle.pool.specs.TakingBack.{Each}
 use Rattle.strips.specs.Promises.{opening, closing, firstToEnd, listCovers}
-use Rattle.marked.specs.Calls.{Any, promised, lentBy}
+use Rattle.runs.specs.Calls.{Call, promised, lentBy, Each}
 use Rattle.marked.specs.Cases.{Serves, Refuses, Holds, cases}
 use Rattle.marked.specs.Tables.{laterLines}
 use Rattle.marked.proofs.Tabled.{tabled, first-holds}
@@ -49,7 +48,7 @@ serve t c e =
     record { set-up-done = rw (meaning.set-up-done c p); check-done = rw (meaning.check-sound (setUp c .cells) .1 (meaning.set-up-sound c p)) }
 
 -- all cells of another length: the first line of every call's table holds
-refuse : {l : ℕ} → poolLength l ≡ false → (c : List ℕ) → length c ≡ l → (k : Any) → Refuses c k
+refuse : {l : ℕ} → poolLength l ≡ false → (c : List ℕ) → length c ≡ l → (k : Call) → Refuses c k
 unfolding five numbersOf
 refuse f c e k =
     let w = tabled c k in

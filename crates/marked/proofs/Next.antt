@@ -25,14 +25,14 @@ use Rattle.rule.proofs.Stored.{stored-apart}
 use Rattle.rule.proofs.Tests.{on, both, and-true}
 use Rattle.pool.specs.Asking.{smallestXAnswer, largestXAnswer, smallestYAnswer, listingLeft}
 use Rattle.pool.specs.Changing.{insertion, deletion}
-use Rattle.pool.specs.Playing as calls
 use Rattle.pool.specs.Showing.{Shows}
-use Rattle.pool.specs.TakingBack.{insert, delete}
 use Rattle.pool.proofs.Changes.{accepted-made, insertion-sound, insertion-stored, deletion-sound, deletion-gone}
-use Rattle.pool.proofs.Questions.{smallestX-plain, largestX-plain, smallestY-plain, listing-shows}
-use Rattle.pool.proofs.TakenBack.{does}
+use Rattle.pool.proofs.Shown.{listing-shows}
 use Rattle.pool.proofs.Views.{insertion-view, deletion-view}
-use Rattle.marked.specs.Calls.{pool, promised}
+use Rattle.runs.specs.Calls as calls
+use Rattle.runs.specs.Calls.{promised}
+use Rattle.runs.proofs.Plain.{smallestX-plain, largestX-plain, smallestY-plain}
+use Rattle.runs.proofs.TakenBack.{insertion-gains, deletion-loses}
 use Rattle.marked.specs.Next.{Finds, Misses}
 use Rattle.marked.specs.Wrong.{Program, KeepsAll}
 
@@ -130,11 +130,11 @@ module _ (g : Program) (keeps : KeepsAll g) {d : List ℕ} (s : Sound d) where
     finds : Finds g d p
     unfolding promised
     finds = record {
-      smallest-x = λ t. rw (keeps t d (pool (calls.smallest-x own))) found-smallest;
-      largest-x = λ t. rw (keeps t d (pool (calls.largest-x own))) found-largest;
-      smallest-y = λ t. rw (keeps t d (pool (calls.smallest-y (p .x) (p .x)))) found-lowest;
-      listing = λ t out r. rw (keeps t d (pool (calls.list own out))) (found-listed out r);
-      lists = λ t out r. rw (keeps t d (pool (calls.list own out))) (found-written out r);
+      smallest-x = λ t. rw (keeps t d (calls.smallest-x own)) found-smallest;
+      largest-x = λ t. rw (keeps t d (calls.largest-x own)) found-largest;
+      smallest-y = λ t. rw (keeps t d (calls.smallest-y (p .x) (p .x))) found-lowest;
+      listing = λ t out r. rw (keeps t d (calls.list own out)) (found-listed out r);
+      lists = λ t out r. rw (keeps t d (calls.list own out)) (found-written out r);
     }
 
   -- an x that no stored pair has is found by none
@@ -175,50 +175,50 @@ module _ (g : Program) (keeps : KeepsAll g) {d : List ℕ} (s : Sound d) where
     misses : Misses g d x
     unfolding promised
     misses = record {
-      smallest-x = λ t y1. rw (keeps t d (pool (calls.smallest-x (limits x x y1)))) (missed-smallest y1);
-      largest-x = λ t y1. rw (keeps t d (pool (calls.largest-x (limits x x y1)))) (missed-largest y1);
-      smallest-y = λ t. rw (keeps t d (pool (calls.smallest-y x x))) missed-lowest;
-      listing = λ t y1 out. rw (keeps t d (pool (calls.list (limits x x y1) out))) (missed-listed y1 out);
-      lists = λ t y1 out. rw (keeps t d (pool (calls.list (limits x x y1) out))) (missed-written y1 out);
+      smallest-x = λ t y1. rw (keeps t d (calls.smallest-x (limits x x y1))) (missed-smallest y1);
+      largest-x = λ t y1. rw (keeps t d (calls.largest-x (limits x x y1))) (missed-largest y1);
+      smallest-y = λ t. rw (keeps t d (calls.smallest-y x x)) missed-lowest;
+      listing = λ t y1 out. rw (keeps t d (calls.list (limits x x y1) out)) (missed-listed y1 out);
+      lists = λ t y1 out. rw (keeps t d (calls.list (limits x x y1) out)) (missed-written y1 out);
     }
 
 module _ (g : Program) (keeps : KeepsAll g) (t : ℕ) (c : List ℕ) (p : Pair) where
   -- law: an insert that is accepted changes the cells, and the pair is found by each next question
-  module _ (small : p .x < 4294967296) (a : five (g t c (pool (calls.insert p)) .answer) .code ≡ 0) where
+  module _ (small : p .x < 4294967296) (a : five (g t c (calls.insert p) .answer) .code ≡ 0) where
     taken : five (insertion c p .answer) .code ≡ 0
     unfolding promised
-    taken = rw (keeps t c (pool (calls.insert p))) at a
+    taken = rw (keeps t c (calls.insert p)) at a
 
-    pub insert-changes : g t c (pool (calls.insert p)) .cells ≢ c
+    pub insert-changes : g t c (calls.insert p) .cells ≢ c
     unfolding promised
     insert-changes e =
-        let n = does c (insert p) small (eq-eqb _ 0 taken) in
-        let i : insertion c p .cells ≡ c = rw (keeps t c (pool (calls.insert p))) at e in
+        let n = insertion-gains c p small (eq-eqb _ 0 taken) in
+        let i : insertion c p .cells ≡ c = rw (keeps t c (calls.insert p)) at e in
         n .new (subst (λ l. List·Memᴰ p (stored l)) i (n .rest p .1 (inl refl)))
 
-    pub insert-found : Finds g (g t c (pool (calls.insert p)) .cells) p
+    pub insert-found : Finds g (g t c (calls.insert p) .cells) p
     unfolding promised
     insert-found =
         let k = eq-eqb _ 0 taken in
         let s = accepted-made (insertion-view c p) k .0 .sound in
-        rw (keeps t c (pool (calls.insert p))) (finds g keeps (insertion-sound c p small s) p (insertion-stored c p small k p .1 (inl refl)))
+        rw (keeps t c (calls.insert p)) (finds g keeps (insertion-sound c p small s) p (insertion-stored c p small k p .1 (inl refl)))
 
   -- law: a delete that is accepted changes the cells, and the pair is found by no next question
-  module _ (a : five (g t c (pool (calls.delete p)) .answer) .code ≡ 0) where
+  module _ (a : five (g t c (calls.delete p) .answer) .code ≡ 0) where
     gone : five (deletion c p .answer) .code ≡ 0
     unfolding promised
-    gone = rw (keeps t c (pool (calls.delete p))) at a
+    gone = rw (keeps t c (calls.delete p)) at a
 
-    pub delete-changes : g t c (pool (calls.delete p)) .cells ≢ c
+    pub delete-changes : g t c (calls.delete p) .cells ≢ c
     unfolding promised
     delete-changes e =
-        let n = does c (delete p) tt (eq-eqb _ 0 gone) in
-        let i : deletion c p .cells ≡ c = rw (keeps t c (pool (calls.delete p))) at e in
+        let n = deletion-loses c p (eq-eqb _ 0 gone) in
+        let i : deletion c p .cells ≡ c = rw (keeps t c (calls.delete p)) at e in
         n .new (subst (λ l. List·Memᴰ p (stored l)) (sym i) (n .rest p .1 (inl refl)))
 
-    pub delete-missed : Misses g (g t c (pool (calls.delete p)) .cells) (p .x)
+    pub delete-missed : Misses g (g t c (calls.delete p) .cells) (p .x)
     unfolding promised
     delete-missed =
         let k = eq-eqb _ 0 gone in
         let s = accepted-made (deletion-view c p) k .0 .sound in
-        rw (keeps t c (pool (calls.delete p))) (misses g keeps (deletion-sound c p s) (p .x) (deletion-gone c p k))
+        rw (keeps t c (calls.delete p)) (misses g keeps (deletion-sound c p s) (p .x) (deletion-gone c p k))

@@ -24,7 +24,7 @@ use Rattle.pool.specs.Asking.{smallestXAnswer, largestXAnswer, smallestYAnswer,
 use Rattle.strips.specs.Promises.{opening, closing, firstToEnd, lastToEnd, earliestStart, listCovers, listMeets, listContains}
 use Rattle.book.specs.Book.{byX, bookOf}
 use Rattle.book.specs.Promises.{saved}
-use Rattle.marked.specs.Calls.{promised}
+use Rattle.runs.specs.Calls.{promised}
 use Rattle.marked.specs.Wrong.{Kind, set-ups, inserts, deletes, smallest-xs, largest-xs, smallest-ys, listings, openings, closings, firsts, lasts, earliests, coverings, meetings, containings, checks, saves}
 use Rattle.marked.specs.Samples.{sample, Shown}
 

@@ -14,12 +14,10 @@ use Rattle.rule.proofs.Tests.{on}
 use Rattle.sound.specs.Promises.{setUp, checked}
 use Rattle.pool.specs.Asking.{outcomeOf, smallestXAnswer, largestXAnswer, smallestYAnswer, listingLeft}
 use Rattle.pool.specs.Changing.{insertion, deletion}
-use Rattle.pool.specs.Playing.{Call, set-up, insert, delete, smallest-x, largest-x, smallest-y, list}
 use Rattle.strips.specs.Promises.{opening, closing, firstToEnd, lastToEnd, earliestStart, listCovers, listMeets, listContains}
-use Rattle.strips.specs.Runs.{StripCall, opens, closes, first, last, earliest, covers, meets, contains}
 use Rattle.strips.specs.Strips.{coversLimits, lastLimits}
 use Rattle.book.specs.Promises.{saved}
-use Rattle.marked.specs.Calls.{Any, pool, strip, check, save, Result, changes, asks, writes, promised}
+use Rattle.runs.specs.Calls.{Call, set-up, check, insert, delete, smallest-x, largest-x, smallest-y, list, opens, closes, first, last, earliest, covers, meets, contains, save, Result, changes, asks, writes, promised}
 use Rattle.marked.specs.Tables.{isRefusal, NoLine, byTable, Tabled}
 
 -- what goes by a table of the promises' own forms goes by it as a result
@@ -43,36 +41,27 @@ finding-serves : (f : Finding) → isRefusal (outcomeOf f) ≡ false
 finding-serves (Found p) = refl
 finding-serves Nothing = refl
 
-module _ (c : List ℕ) where
-  pool-tabled : (k : Call) → Tabled c (pool k)
-  unfolding promised setUp insertion deletion smallestXAnswer largestXAnswer smallestYAnswer listingLeft
-  pool-tabled set-up = record { made = _; serves = refl; visits = refl; table = changes-by _ c _ }
-  pool-tabled (insert p) = record { made = _; serves = refl; visits = refl; table = changes-by _ c _ }
-  pool-tabled (delete p) = record { made = _; serves = refl; visits = refl; table = changes-by _ c _ }
-  pool-tabled (smallest-x q) = record { made = _; serves = finding-serves (smallestXOf q (stored c)); visits = refl; table = asks-by _ c _ }
-  pool-tabled (largest-x q) = record { made = _; serves = finding-serves (largestXOf q (stored c)); visits = refl; table = asks-by _ c _ }
-  pool-tabled (smallest-y x0 x1) = record { made = _; serves = finding-serves (smallestYOf x0 x1 (stored c)); visits = refl; table = asks-by _ c _ }
-  pool-tabled (list q out) = record { made = _; serves = refl; visits = refl; table = writes-by _ c out _ }
-
-  strip-tabled : (k : StripCall) → Tabled c (strip k)
-  unfolding promised opening closing firstToEnd lastToEnd earliestStart listCovers listMeets listContains
-  strip-tabled (opens n) = record { made = _; serves = refl; visits = refl; table = changes-by _ c _ }
-  strip-tabled (closes n) = record { made = _; serves = refl; visits = refl; table = changes-by _ c _ }
-  strip-tabled (first u) = record { made = _; serves = finding-serves (smallestXOf (coversLimits u) (stored c)); visits = refl; table = asks-by _ c _ }
-  strip-tabled (last u e) = record { made = _; serves = finding-serves (largestXOf (lastLimits u e) (stored c)); visits = refl; table = asks-by _ c _ }
-  strip-tabled (earliest u v) =
-      record { made = _; serves = finding-serves (smallestYOf (u * 65536) (v * 65536 + 65535) (stored c)); visits = refl; table = asks-by _ c _ }
-  strip-tabled (covers u out) = record { made = _; serves = refl; visits = refl; table = writes-by _ c out _ }
-  strip-tabled (meets u v out) = record { made = _; serves = refl; visits = refl; table = writes-by _ c out _ }
-  strip-tabled (contains u v out) = record { made = _; serves = refl; visits = refl; table = writes-by _ c out _ }
-
-  -- law: a call gives a refusal exactly where its line is the first of its table that holds; what no line refuses is accepted, with its walk's visits
-  pub tabled : (k : Any) → Tabled c k
-  unfolding promised checked saved
-  tabled (pool k) = pool-tabled k
-  tabled (strip k) = strip-tabled k
-  tabled check = record { made = _; serves = refl; visits = refl; table = asks-by _ c _ }
-  tabled (save bytes) = record { made = _; serves = refl; visits = refl; table = writes-by _ c bytes _ }
+-- law: a call gives a refusal exactly where its line is the first of its table that holds; what no line refuses is accepted, with its walk's visits
+pub tabled : (c : List ℕ) (k : Call) → Tabled c k
+unfolding promised setUp checked insertion deletion smallestXAnswer largestXAnswer smallestYAnswer listingLeft opening closing firstToEnd lastToEnd earliestStart listCovers listMeets listContains saved
+tabled c set-up = record { made = _; serves = refl; visits = refl; table = changes-by _ c _ }
+tabled c check = record { made = _; serves = refl; visits = refl; table = asks-by _ c _ }
+tabled c (insert p) = record { made = _; serves = refl; visits = refl; table = changes-by _ c _ }
+tabled c (delete p) = record { made = _; serves = refl; visits = refl; table = changes-by _ c _ }
+tabled c (smallest-x q) = record { made = _; serves = finding-serves (smallestXOf q (stored c)); visits = refl; table = asks-by _ c _ }
+tabled c (largest-x q) = record { made = _; serves = finding-serves (largestXOf q (stored c)); visits = refl; table = asks-by _ c _ }
+tabled c (smallest-y x0 x1) = record { made = _; serves = finding-serves (smallestYOf x0 x1 (stored c)); visits = refl; table = asks-by _ c _ }
+tabled c (list q out) = record { made = _; serves = refl; visits = refl; table = writes-by _ c out _ }
+tabled c (opens n) = record { made = _; serves = refl; visits = refl; table = changes-by _ c _ }
+tabled c (closes n) = record { made = _; serves = refl; visits = refl; table = changes-by _ c _ }
+tabled c (first u) = record { made = _; serves = finding-serves (smallestXOf (coversLimits u) (stored c)); visits = refl; table = asks-by _ c _ }
+tabled c (last u e) = record { made = _; serves = finding-serves (largestXOf (lastLimits u e) (stored c)); visits = refl; table = asks-by _ c _ }
+tabled c (earliest u v) =
+    record { made = _; serves = finding-serves (smallestYOf (u * 65536) (v * 65536 + 65535) (stored c)); visits = refl; table = asks-by _ c _ }
+tabled c (covers u out) = record { made = _; serves = refl; visits = refl; table = writes-by _ c out _ }
+tabled c (meets u v out) = record { made = _; serves = refl; visits = refl; table = writes-by _ c out _ }
+tabled c (contains u v out) = record { made = _; serves = refl; visits = refl; table = writes-by _ c out _ }
+tabled c (save bytes) = record { made = _; serves = refl; visits = refl; table = writes-by _ c bytes _ }
 
 -- a table by its first line, and one of which no line holds
 pub first-holds : (l : Line) (ls : List Line) (c out : List ℕ) (made : Result) → l .when ≡ true

@@ -11,13 +11,11 @@ use Rattle.rule.specs.Answer.{five, numbersOf}
 use Rattle.rule.specs.Refusals.{Line, Left, Leaves}
 use Rattle.rule.proofs.Promised.{one-answer}
 use Rattle.rule.proofs.Tests.{on, clash}
-use Rattle.pool.specs.Playing.{Call, set-up, insert, delete, smallest-x, largest-x, smallest-y, list, play, Book, playAll, plainlyAll, AllSmallX}
-use Rattle.pool.proofs.Played as pool-runs
-use Rattle.strips.specs.Runs.{StripCall, opens, closes, first, last, earliest, covers, meets, contains, playStrip, playStrips, plainlyStrips}
-use Rattle.strips.proofs.Runs as strip-runs
-use Rattle.marked.specs.Calls.{Any, pool, strip, Result, changes, asks, writes, promised, lentBy}
+use Rattle.runs.specs.Calls.{Call, Result, changes, asks, writes, promised, lentBy, Each}
+use Rattle.runs.specs.Playing.{play, Book, playAll, plainlyAll, SmallX, Same, Agrees}
+use Rattle.runs.proofs.Played.{plays-all}
 use Rattle.marked.specs.Tables.{linesOf, visitsOf, isRefusal, NoLine, byTable}
-use Rattle.marked.specs.Wrong.{Program, Kind, kindOf, writesOf, Keeps, KeepsAll, AlwaysRefuses, OneAnswer, Idle, Pretends, MadeUp, Wrong, refuses, constant, idle, pretends, made-up, Served, runs, stripRuns}
+use Rattle.marked.specs.Wrong.{Program, Kind, kindOf, writesOf, Keeps, KeepsAll, AlwaysRefuses, OneAnswer, Idle, Pretends, MadeUp, Wrong, refuses, constant, idle, pretends, made-up, Served, runs}
 use Rattle.marked.specs.Samples.{sample}
 use Rattle.marked.proofs.Tabled.{tabled, none-holds}
 use Rattle.marked.proofs.Samples.{shown}
@@ -58,7 +56,7 @@ table-made (l ∷ ls) c out made f = on (l .when)
     (λ t. absurd (clash refl (rw t at f)))
     (λ n. rw n (table-made ls c out made (rw n at f)))
 
-module _ (c : List ℕ) (k : Any) where
+module _ (c : List ℕ) (k : Call) where
   -- law: what no line of a call's table refuses is answered with 0, 8 or 10
   pub accepted-code : NoLine (linesOf c k) → Served (five (promised c k .answer) .code)
   unfolding five
@@ -76,7 +74,7 @@ module _ (c : List ℕ) (k : Any) where
 
 module _ (K : Kind) (g : Program) (keeps : Keeps K g) where
   -- law: what no line of the call's table refuses it answers with 0, 8 or 10
-  pub serves-unrefused : (t : ℕ) (c : List ℕ) (k : Any) → kindOf k ≡ K → NoLine (linesOf c k) → Served (five (g t c k .answer) .code)
+  pub serves-unrefused : (t : ℕ) (c : List ℕ) (k : Call) → kindOf k ≡ K → NoLine (linesOf c k) → Served (five (g t c k .answer) .code)
   serves-unrefused t c k e n = rw (keeps t c k e) (accepted-code c k n)
 
   -- law: there is an input that it does not refuse, whenever it comes; so it does not always refuse
@@ -106,14 +104,14 @@ module _ (K : Kind) (g : Program) (keeps : Keeps K g) where
       s .writes t (rw (keeps 0 c k (s .kind)) at (i .cells 0 c k (s .kind))) (rw (keeps 0 c k (s .kind)) at (i .lent 0 c k (s .kind)))
 
   -- law: at its t-th call it does what it would have done at its first; so it does not pretend later
-  pub same-later : (t : ℕ) (c : List ℕ) (k : Any) → kindOf k ≡ K → g t c k ≡ g 0 c k
+  pub same-later : (t : ℕ) (c : List ℕ) (k : Call) → kindOf k ≡ K → g t c k ≡ g 0 c k
   same-later t c k e = one-answer (keeps t c k e) (keeps 0 c k e)
 
   pub not-pretending : Pretends K g → ⊥
   not-pretending p = p .differs (same-later (p .before) (p .cells) (p .call) (p .kind))
 
   -- law: the visits that it reports, where it does not refuse, are those of the walk; so they are not made up
-  pub visits-walked : (t : ℕ) (c : List ℕ) (k : Any) → kindOf k ≡ K → isRefusal (g t c k .answer .outcome) ≡ false → five (g t c k .answer) .visits ≡ visitsOf c k
+  pub visits-walked : (t : ℕ) (c : List ℕ) (k : Call) → kindOf k ≡ K → isRefusal (g t c k .answer .outcome) ≡ false → five (g t c k .answer) .visits ≡ visitsOf c k
   visits-walked t c k e f = rw (keeps t c k e) (walk-visits c k (rw (keeps t c k e) at f))
 
   pub not-made-up : MadeUp K g → ⊥
@@ -127,43 +125,12 @@ module _ (K : Kind) (g : Program) (keeps : Keeps K g) where
   none-wrong (pretends p) = not-pretending p
   none-wrong (made-up m) = not-made-up m
 
--- one call of a run, as the pool's runs and the strips' have it
-pool-step : (c : List ℕ) (k : Call) → play c k ≡ record { cells = promised c (pool k) .cells; outcome = promised c (pool k) .answer .outcome }
-unfolding play promised
-pool-step c set-up = refl
-pool-step c (insert p) = refl
-pool-step c (delete p) = refl
-pool-step c (smallest-x q) = refl
-pool-step c (largest-x q) = refl
-pool-step c (smallest-y x0 x1) = refl
-pool-step c (list q out) = refl
-
-strip-step : (c : List ℕ) (k : StripCall) → playStrip c k ≡ record { cells = promised c (strip k) .cells; outcome = promised c (strip k) .answer .outcome }
-unfolding playStrip promised
-strip-step c (opens n) = refl
-strip-step c (closes n) = refl
-strip-step c (first u) = refl
-strip-step c (last u e) = refl
-strip-step c (earliest u v) = refl
-strip-step c (covers u out) = refl
-strip-step c (meets u v out) = refl
-strip-step c (contains u v out) = refl
-
 module _ (g : Program) (keeps : KeepsAll g) where
   runs-played : (t : ℕ) (ks : List Call) (c : List ℕ) → runs g t ks c ≡ playAll ks c
-  unfolding runs playAll
+  unfolding runs playAll play
   runs-played t [] c = refl
-  runs-played t (k ∷ ks) c = rw (keeps t c (pool k), pool-step c k, runs-played (suc t) ks (promised c (pool k) .cells))
+  runs-played t (k ∷ ks) c = rw (keeps t c k, runs-played (suc t) ks (promised c k .cells))
 
-  strip-runs-played : (t : ℕ) (ks : List StripCall) (c : List ℕ) → stripRuns g t ks c ≡ playStrips ks c
-  unfolding stripRuns playStrips
-  strip-runs-played t [] c = refl
-  strip-runs-played t (k ∷ ks) c = rw (keeps t c (strip k), strip-step c k, strip-runs-played (suc t) ks (promised c (strip k) .cells))
-
-  -- law: over whole sequences, however late they start, its outcomes and its stored set are those of a plain list
-  pub run-agrees : (t : ℕ) (ks : List Call) (c : List ℕ) (b : Book) → AllSmallX ks → pool-runs.Same c b → pool-runs.Agrees (runs g t ks c) (plainlyAll ks b)
-  run-agrees t ks c b z h = rw (runs-played t ks c) (pool-runs.plays-all ks c b z h)
-
-  -- law: and so over sequences of strip calls
-  pub strip-run-agrees : (t : ℕ) (ks : List StripCall) (c : List ℕ) (b : Book) → pool-runs.Same c b → strip-runs.Agrees (stripRuns g t ks c) (plainlyStrips ks b)
-  strip-run-agrees t ks c b h = rw (strip-runs-played t ks c) (strip-runs.strip-plays-all ks c b h)
+  -- law: over whole sequences of any calls, however late they start, its outcomes and its stored set are those of a plain list
+  pub run-agrees : (t : ℕ) (ks : List Call) (c : List ℕ) (b : Book) → Each SmallX ks → Same c b → Agrees (runs g t ks c) (plainlyAll ks b)
+  run-agrees t ks c b z h = rw (runs-played t ks c) (plays-all ks c b z h)

@@ -7,10 +7,8 @@ use Rattle.rule.specs.declared.Five.{Five}
 use Rattle.rule.specs.Answer.{five}
 use Rattle.rule.specs.Cells.{rootOf, freeOf, pairAt, leftAt, rightAt, freeMark}
 use Rattle.rule.specs.Plain.{limits}
-use Rattle.pool.specs.Playing.{set-up, insert, delete, smallest-x, largest-x, smallest-y, list}
-use Rattle.strips.specs.Runs.{opens, closes, first, covers}
 use Rattle.strips.specs.Strips.{numberOf}
-use Rattle.marked.specs.Calls.{Any, pool, strip, check, Result, promised, lentBy}
+use Rattle.runs.specs.Calls.{Call, set-up, check, insert, delete, smallest-x, largest-x, smallest-y, list, opens, closes, first, covers, Result, promised, lentBy}
 
 -- code, x, y, count listed, visits
 abbrev pub numbers : (code x y count visits : ℕ) → Five
@@ -19,9 +17,9 @@ numbers code x y count visits = record { code = code; x = x; y = y; count = coun
 -- a step of a case
 pub data Step : Type 0 where
   -- the call gives these five numbers
-  gives : (call : Any) (answer : Five) → Step
+  gives : (call : Call) (answer : Five) → Step
   -- and the slice that it was lent then holds these cells
-  fills : (call : Any) (answer : Five) (lent : List ℕ) → Step
+  fills : (call : Call) (answer : Five) (lent : List ℕ) → Step
   -- this, read off the pool's cells, is that number
   reads : (of : List ℕ → ℕ) (number : ℕ) → Step
   -- the pool's cells are these
@@ -68,51 +66,42 @@ lentCells n = replicate (4 * (n + 1)) 77
 
 -- set up is done on any cells of this length, and check then says sound
 pub record Serves (c : List ℕ) : Type 0 where
-  pub set-up-done : five (promised c (pool set-up) .answer) ≡ done
-  pub check-done : five (promised (promised c (pool set-up) .cells) check .answer) ≡ done
+  pub set-up-done : five (promised c set-up .answer) ≡ done
+  pub check-done : five (promised (promised c set-up .cells) check .answer) ≡ done
 
 -- a call gives 1 and changes nothing that it was lent
-pub record Refuses (c : List ℕ) (k : Any) : Type 0 where
+pub record Refuses (c : List ℕ) (k : Call) : Type 0 where
   pub answer : five (promised c k .answer) ≡ numbers 1 0 0 0 0
   pub cells : promised c k .cells ≡ c
   pub lent : promised c k .lent ≡ lentBy k
 
 -- a case holds: by its steps; or for all cells of its length, and for every call where that is refused
 abbrev pub Holds : Case → Type 0
-Holds (played P n ss) = seen (gives (pool set-up) done ∷ ss) (lentCells n) ≡ said (gives (pool set-up) done ∷ ss)
+Holds (played P n ss) = seen (gives set-up done ∷ ss) (lentCells n) ≡ said (gives set-up done ∷ ss)
 Holds (serves P n) = (c : List ℕ) → length c ≡ n → Serves c
-Holds (refuses P n) = (c : List ℕ) → length c ≡ n → (k : Any) → Refuses c k
+Holds (refuses P n) = (c : List ℕ) → length c ≡ n → (k : Call) → Refuses c k
 
 -- the calls by their numbers
-abbrev pub inserts : (x y : ℕ) → Any
-inserts x y = pool (insert (record { x = x; y = y }))
+abbrev pub inserts : (x y : ℕ) → Call
+inserts x y = insert (record { x = x; y = y })
 
-abbrev pub deletes : (x y : ℕ) → Any
-deletes x y = pool (delete (record { x = x; y = y }))
+abbrev pub deletes : (x y : ℕ) → Call
+deletes x y = delete (record { x = x; y = y })
 
-abbrev pub smallestX : (x0 x1 y1 : ℕ) → Any
-smallestX x0 x1 y1 = pool (smallest-x (limits x0 x1 y1))
+abbrev pub smallestX : (x0 x1 y1 : ℕ) → Call
+smallestX x0 x1 y1 = smallest-x (limits x0 x1 y1)
 
-abbrev pub largestX : (x0 x1 y1 : ℕ) → Any
-largestX x0 x1 y1 = pool (largest-x (limits x0 x1 y1))
+abbrev pub largestX : (x0 x1 y1 : ℕ) → Call
+largestX x0 x1 y1 = largest-x (limits x0 x1 y1)
 
-abbrev pub smallestY : (x0 x1 : ℕ) → Any
-smallestY x0 x1 = pool (smallest-y x0 x1)
+abbrev pub lists : (x0 x1 y1 : ℕ) (out : List ℕ) → Call
+lists x0 x1 y1 out = list (limits x0 x1 y1) out
 
-abbrev pub lists : (x0 x1 y1 : ℕ) (out : List ℕ) → Any
-lists x0 x1 y1 out = pool (list (limits x0 x1 y1) out)
+abbrev pub opening : (start end number : ℕ) → Call
+opening start end number = opens (record { start = start; end = end; number = number })
 
-abbrev pub opening : (start end number : ℕ) → Any
-opening start end number = strip (opens (record { start = start; end = end; number = number }))
-
-abbrev pub closing : (start end number : ℕ) → Any
-closing start end number = strip (closes (record { start = start; end = end; number = number }))
-
-abbrev pub firstToEnd : (u : ℕ) → Any
-firstToEnd u = strip (first u)
-
-abbrev pub listCovers : (u : ℕ) (out : List ℕ) → Any
-listCovers u out = strip (covers u out)
+abbrev pub closing : (start end number : ℕ) → Call
+closing start end number = closes (record { start = start; end = end; number = number })
 
 -- the largest number of 32 bits
 abbrev pub largest : ℕ
@@ -139,7 +128,7 @@ abbrev pub tie : List Step
 tie =
     reads (λ c. pairAt c (rootOf c) .x) 3
     ∷ reads (λ c. pairAt c (rootOf c) .y) 4
-    ∷ gives (smallestY 0 9) (numbers 0 3 4 0 1)
+    ∷ gives (smallest-y 0 9) (numbers 0 3 4 0 1)
     ∷ []
 
 -- P4 n = 1 with [1, 1]: insert [2, 2] gives 5, [1, 9] gives 4; delete [1, 2] gives 7, [3, 1] gives 6
@@ -161,8 +150,8 @@ ends =
     ∷ gives (smallestX largest largest largest) (numbers 0 largest largest 0 2)
     ∷ gives (largestX 0 0 0) (numbers 0 0 0 0 1)
     ∷ gives (largestX largest largest largest) (numbers 0 largest largest 0 2)
-    ∷ gives (smallestY 0 0) (numbers 0 0 0 0 1)
-    ∷ gives (smallestY largest largest) (numbers 0 largest largest 0 2)
+    ∷ gives (smallest-y 0 0) (numbers 0 0 0 0 1)
+    ∷ gives (smallest-y largest largest) (numbers 0 largest largest 0 2)
     ∷ fills (lists 0 largest largest (7 ∷ 7 ∷ 7 ∷ 7 ∷ [])) (numbers 0 0 0 2 2) (0 ∷ 0 ∷ largest ∷ largest ∷ [])
     ∷ []
 
@@ -173,12 +162,12 @@ script ss = gives (opening 10 20 1) done ∷ gives (opening 5 20 2) done ∷ giv
 -- P7 slot 20 is covered by two, slot 21 by none, slot 4 by none
 abbrev pub covered : List Step
 covered = script (
-    fills (listCovers 20 (7 ∷ 7 ∷ 7 ∷ 7 ∷ 7 ∷ [])) (numbers 0 0 0 2 3) (1310722 ∷ 5 ∷ 1310721 ∷ 10 ∷ 7 ∷ [])
-    ∷ gives (firstToEnd 20) (numbers 0 1310721 10 0 3)
-    ∷ fills (listCovers 21 (7 ∷ 7 ∷ [])) (numbers 0 0 0 0 3) (7 ∷ 7 ∷ [])
-    ∷ gives (firstToEnd 21) (numbers 8 0 0 0 3)
-    ∷ fills (listCovers 4 (7 ∷ 7 ∷ [])) (numbers 0 0 0 0 1) (7 ∷ 7 ∷ [])
-    ∷ gives (firstToEnd 4) (numbers 8 0 0 0 1)
+    fills (covers 20 (7 ∷ 7 ∷ 7 ∷ 7 ∷ 7 ∷ [])) (numbers 0 0 0 2 3) (1310722 ∷ 5 ∷ 1310721 ∷ 10 ∷ 7 ∷ [])
+    ∷ gives (first 20) (numbers 0 1310721 10 0 3)
+    ∷ fills (covers 21 (7 ∷ 7 ∷ [])) (numbers 0 0 0 0 3) (7 ∷ 7 ∷ [])
+    ∷ gives (first 21) (numbers 8 0 0 0 3)
+    ∷ fills (covers 4 (7 ∷ 7 ∷ [])) (numbers 0 0 0 0 1) (7 ∷ 7 ∷ [])
+    ∷ gives (first 4) (numbers 8 0 0 0 1)
     ∷ [])
 
 -- the cells with the three strips in a pool of five slots: the header, then x, y, left, right of each

@@ -1,5 +1,4 @@
--- Every call in one definition; 01's marked cases; and programs that are tried against the promises.
-pub mod Calls
+-- 01's marked cases, and programs that are tried against the promises.
 pub mod Cases
 pub mod Tables
 pub mod Wrong

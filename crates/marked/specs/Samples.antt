@@ -8,9 +8,7 @@ use lib.ListN.{replicate}
 use Rattle.rule.specs.Answer.{five}
 use Rattle.rule.specs.Cells.{freeMark}
 use Rattle.rule.specs.Plain.{limits}
-use Rattle.pool.specs.Playing.{set-up, insert, delete, smallest-x, largest-x, smallest-y, list}
-use Rattle.strips.specs.Runs.{Named, opens, closes, first, last, earliest, covers, meets, contains}
-use Rattle.marked.specs.Calls.{Any, pool, strip, check, save, promised, lentBy}
+use Rattle.runs.specs.Calls.{Named, Call, set-up, check, insert, delete, smallest-x, largest-x, smallest-y, list, opens, closes, first, last, earliest, covers, meets, contains, save, promised, lentBy}
 use Rattle.marked.specs.Tables.{isRefusal}
 use Rattle.marked.specs.Wrong.{Kind, set-ups, inserts, deletes, smallest-xs, largest-xs, smallest-ys, listings, openings, closings, firsts, lasts, earliests, coverings, meetings, containings, checks, saves, kindOf, writesOf}
 
@@ -32,31 +30,31 @@ room = 7 ∷ 7 ∷ []
 
 -- a call, cells on which it is served, and cells on which it is answered otherwise
 pub record Sample : Type 0 where
-  pub call : Any
+  pub call : Call
   pub served : List ℕ
   pub otherwise : List ℕ
 
 -- a sample by its parts
-abbrev pub on : Any → List ℕ → List ℕ → Sample
+abbrev pub on : Call → List ℕ → List ℕ → Sample
 on k c d = record { call = k; served = c; otherwise = d }
 
 -- a sample of each kind
 abbrev pub sample : Kind → Sample
-sample set-ups = on (pool set-up) one []
-sample inserts = on (pool (insert (record { x = 1; y = 0 }))) empty one
-sample deletes = on (pool (delete (record { x = 1; y = 0 }))) one empty
-sample smallest-xs = on (pool (smallest-x (limits 1 1 0))) one empty
-sample largest-xs = on (pool (largest-x (limits 1 1 0))) one empty
-sample smallest-ys = on (pool (smallest-y 1 1)) one empty
-sample listings = on (pool (list (limits 1 1 0) room)) one empty
-sample openings = on (strip (opens only)) empty one
-sample closings = on (strip (closes only)) one empty
-sample firsts = on (strip (first 0)) one empty
-sample lasts = on (strip (last 0 0)) one empty
-sample earliests = on (strip (earliest 0 0)) one empty
-sample coverings = on (strip (covers 0 room)) one empty
-sample meetings = on (strip (meets 0 0 room)) one empty
-sample containings = on (strip (contains 0 0 room)) one empty
+sample set-ups = on set-up one []
+sample inserts = on (insert (record { x = 1; y = 0 })) empty one
+sample deletes = on (delete (record { x = 1; y = 0 })) one empty
+sample smallest-xs = on (smallest-x (limits 1 1 0)) one empty
+sample largest-xs = on (largest-x (limits 1 1 0)) one empty
+sample smallest-ys = on (smallest-y 1 1) one empty
+sample listings = on (list (limits 1 1 0) room) one empty
+sample openings = on (opens only) empty one
+sample closings = on (closes only) one empty
+sample firsts = on (first 0) one empty
+sample lasts = on (last 0 0) one empty
+sample earliests = on (earliest 0 0) one empty
+sample coverings = on (covers 0 room) one empty
+sample meetings = on (meets 0 0 room) one empty
+sample containings = on (contains 0 0 room) one empty
 sample checks = on check one []
 sample saves = on (save (replicate 13 7)) one []
 

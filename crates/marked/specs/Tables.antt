@@ -1,7 +1,7 @@
 -- Every call's table of refusals, in 01's order, and the visits of its walk.
-use Prim.Native.Nat.{ℕ}
+use Prim.Native.Nat.{ℕ, _+_, _*_}
 use mathlib.Core.Path.{_≡_}
-use mathlib.Core.Bool.{Bool, true, false, cond}
+use mathlib.Core.Bool.{Bool, true, false, cond, _||_}
 use mathlib.Core.List.{List, [], _∷_}
 use Rattle.rule.specs.declared.Outcome.{Outcome}
 use Rattle.rule.specs.declared.Outcome.the-variants.{Found, Nothing, Listed, Refused}
@@ -12,64 +12,53 @@ use Rattle.rule.specs.Walks.{smallestX, largestX, smallestY, listing, roomOf}
 use Rattle.sound.specs.Promises.{lengthLine, soundLine}
 use Rattle.pool.specs.Asking.{treeOf, backwardsLine}
 use Rattle.pool.specs.Changing.{takenLine, fullLine, missingLine, otherLine}
-use Rattle.pool.specs.Playing.{Call, set-up, insert, delete, smallest-x, largest-x, smallest-y, list}
-use Rattle.strips.specs.Promises.{stripLine}
-use Rattle.strips.specs.Runs.{StripCall, opens, closes, first, last, earliest, covers, meets, contains, ownLines, callOf}
-use Rattle.strips.specs.Strips.{stripPair, noStrip}
+use Rattle.strips.specs.Promises.{stripLine, orderLine}
+use Rattle.strips.specs.Strips.{over, coversLimits, lastLimits, meetsLimits, containsLimits}
 use Rattle.book.specs.Promises.{shortLine}
-use Rattle.marked.specs.Calls.{Any, pool, strip, check, save, Result, promised, lentBy}
+use Rattle.runs.specs.Calls.{pairOf, illNamed, Call, set-up, check, insert, delete, smallest-x, largest-x, smallest-y, list, opens, closes, first, last, earliest, covers, meets, contains, save, Result, promised, lentBy}
 
 -- the lines of a call behind the one on the pool's length
-abbrev pub poolLines : List ℕ → Call → List Line
-poolLines c set-up = []
-poolLines c (insert p) = soundLine c ∷ takenLine c p ∷ fullLine c ∷ []
-poolLines c (delete p) = soundLine c ∷ missingLine c p ∷ otherLine c p ∷ []
-poolLines c (smallest-x q) = soundLine c ∷ backwardsLine (q .x0) (q .x1) ∷ []
-poolLines c (largest-x q) = soundLine c ∷ backwardsLine (q .x0) (q .x1) ∷ []
-poolLines c (smallest-y x0 x1) = soundLine c ∷ backwardsLine x0 x1 ∷ []
-poolLines c (list q out) = soundLine c ∷ backwardsLine (q .x0) (q .x1) ∷ []
-
--- an opening and a closing have the lines of an insert and a delete behind their own
-abbrev pub stripLines : List ℕ → StripCall → List Line
-stripLines c (opens n) =
-    let p = stripPair (n .start) (n .end) (n .number) in
-    soundLine c ∷ stripLine (noStrip (n .start) (n .end) (n .number)) ∷ takenLine c p ∷ fullLine c ∷ []
-stripLines c (closes n) =
-    let p = stripPair (n .start) (n .end) (n .number) in
-    soundLine c ∷ stripLine (noStrip (n .start) (n .end) (n .number)) ∷ missingLine c p ∷ otherLine c p ∷ []
-stripLines c (first u) = soundLine c ∷ ownLines (first u)
-stripLines c (last u e) = soundLine c ∷ ownLines (last u e)
-stripLines c (earliest u v) = soundLine c ∷ ownLines (earliest u v)
-stripLines c (covers u out) = soundLine c ∷ ownLines (covers u out)
-stripLines c (meets u v out) = soundLine c ∷ ownLines (meets u v out)
-stripLines c (contains u v out) = soundLine c ∷ ownLines (contains u v out)
-
--- the same for every call
-abbrev pub laterLines : List ℕ → Any → List Line
-laterLines c (pool k) = poolLines c k
-laterLines c (strip k) = stripLines c k
+abbrev pub laterLines : List ℕ → Call → List Line
+laterLines c set-up = []
 laterLines c check = soundLine c ∷ []
+laterLines c (insert p) = soundLine c ∷ takenLine c p ∷ fullLine c ∷ []
+laterLines c (delete p) = soundLine c ∷ missingLine c p ∷ otherLine c p ∷ []
+laterLines c (smallest-x q) = soundLine c ∷ backwardsLine (q .x0) (q .x1) ∷ []
+laterLines c (largest-x q) = soundLine c ∷ backwardsLine (q .x0) (q .x1) ∷ []
+laterLines c (smallest-y x0 x1) = soundLine c ∷ backwardsLine x0 x1 ∷ []
+laterLines c (list q out) = soundLine c ∷ backwardsLine (q .x0) (q .x1) ∷ []
+laterLines c (opens n) = soundLine c ∷ stripLine (illNamed n) ∷ takenLine c (pairOf n) ∷ fullLine c ∷ []
+laterLines c (closes n) = soundLine c ∷ stripLine (illNamed n) ∷ missingLine c (pairOf n) ∷ otherLine c (pairOf n) ∷ []
+laterLines c (first u) = soundLine c ∷ stripLine (over u) ∷ []
+laterLines c (last u e) = soundLine c ∷ stripLine (over u || over e) ∷ orderLine u e ∷ []
+laterLines c (earliest u v) = soundLine c ∷ stripLine (over u || over v) ∷ orderLine u v ∷ []
+laterLines c (covers u out) = soundLine c ∷ stripLine (over u) ∷ []
+laterLines c (meets u v out) = soundLine c ∷ stripLine (over u || over v) ∷ orderLine u v ∷ []
+laterLines c (contains u v out) = soundLine c ∷ stripLine (over u || over v) ∷ orderLine u v ∷ []
 laterLines c (save bytes) = soundLine c ∷ shortLine c bytes ∷ []
 
 -- a call's table: the pool's length comes first, whatever the call
-abbrev pub linesOf : List ℕ → Any → List Line
+abbrev pub linesOf : List ℕ → Call → List Line
 linesOf c k = lengthLine c ∷ laterLines c k
 
--- how many slots a call's walk visits; a change has no walk that counts
-abbrev pub poolVisits : List ℕ → Call → ℕ
-poolVisits c set-up = 0
-poolVisits c (insert p) = 0
-poolVisits c (delete p) = 0
-poolVisits c (smallest-x q) = smallestX q rootStripe (treeOf c) .visits
-poolVisits c (largest-x q) = largestX q rootStripe (treeOf c) .visits
-poolVisits c (smallest-y x0 x1) = smallestY x0 x1 rootStripe (treeOf c) .visits
-poolVisits c (list q out) = listing q rootStripe (treeOf c) (roomOf out) .visits
-
--- a strip call walks as the call of the pool that it is
-abbrev pub visitsOf : List ℕ → Any → ℕ
-visitsOf c (pool k) = poolVisits c k
-visitsOf c (strip k) = poolVisits c (callOf k)
+-- how many slots a call's walk visits, a strip call's by 01's table; a change has no walk that counts, nor have set up, check and the book
+abbrev pub visitsOf : List ℕ → Call → ℕ
+visitsOf c set-up = 0
 visitsOf c check = 0
+visitsOf c (insert p) = 0
+visitsOf c (delete p) = 0
+visitsOf c (smallest-x q) = smallestX q rootStripe (treeOf c) .visits
+visitsOf c (largest-x q) = largestX q rootStripe (treeOf c) .visits
+visitsOf c (smallest-y x0 x1) = smallestY x0 x1 rootStripe (treeOf c) .visits
+visitsOf c (list q out) = listing q rootStripe (treeOf c) (roomOf out) .visits
+visitsOf c (opens n) = 0
+visitsOf c (closes n) = 0
+visitsOf c (first u) = smallestX (coversLimits u) rootStripe (treeOf c) .visits
+visitsOf c (last u e) = largestX (lastLimits u e) rootStripe (treeOf c) .visits
+visitsOf c (earliest u v) = smallestY (u * 65536) (v * 65536 + 65535) rootStripe (treeOf c) .visits
+visitsOf c (covers u out) = listing (coversLimits u) rootStripe (treeOf c) (roomOf out) .visits
+visitsOf c (meets u v out) = listing (meetsLimits u v) rootStripe (treeOf c) (roomOf out) .visits
+visitsOf c (contains u v out) = listing (containsLimits u v) rootStripe (treeOf c) (roomOf out) .visits
 visitsOf c (save bytes) = 0
 
 -- the outcome is a refusal
@@ -92,7 +81,7 @@ byTable (l ∷ ls) c out made =
     cond (l .when) (record { cells = c; lent = out; answer = refused (l .code) }) rest
 
 -- a call goes by its table: what no line refuses is no refusal, and has the visits of its walk
-pub record Tabled (c : List ℕ) (k : Any) : Type 0 where
+pub record Tabled (c : List ℕ) (k : Call) : Type 0 where
   pub made : Result
   pub serves : isRefusal (made .answer .outcome) ≡ false
   pub visits : made .answer .visits ≡ visitsOf c k

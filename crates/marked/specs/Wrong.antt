@@ -6,14 +6,13 @@ use mathlib.Core.Bool.{Bool, true, false}
 use mathlib.Core.List.{List, [], _∷_}
 use Rattle.rule.specs.declared.Five.{Five}
 use Rattle.rule.specs.Answer.{five}
-use Rattle.pool.specs.Playing.{Call, set-up, insert, delete, smallest-x, largest-x, smallest-y, list, Run}
-use Rattle.strips.specs.Runs.{StripCall, opens, closes, first, last, earliest, covers, meets, contains, StripRun}
-use Rattle.marked.specs.Calls.{Any, pool, strip, check, save, Result, promised, lentBy}
+use Rattle.runs.specs.Calls.{Call, set-up, check, insert, delete, smallest-x, largest-x, smallest-y, list, opens, closes, first, last, earliest, covers, meets, contains, save, Result, promised, lentBy}
+use Rattle.runs.specs.Playing.{Run}
 use Rattle.marked.specs.Tables.{isRefusal, visitsOf}
 
 -- what a program does at a call: it knows how many calls came before, so it may behave otherwise later; the lent cells; and what is passed in
 abbrev pub Program : Type 0
-Program = (before : ℕ) (cells : List ℕ) (call : Any) → Result
+Program = (before : ℕ) (cells : List ℕ) (call : Call) → Result
 
 -- the kinds of call: over a pool, over strips, the check, and writing the book
 pub data Kind : Type 0 where
@@ -21,32 +20,24 @@ pub data Kind : Type 0 where
   openings closings firsts lasts earliests coverings meetings containings : Kind
   checks saves : Kind
 
--- the kind of a call over a pool
-abbrev pub poolKind : Call → Kind
-poolKind set-up = set-ups
-poolKind (insert p) = inserts
-poolKind (delete p) = deletes
-poolKind (smallest-x q) = smallest-xs
-poolKind (largest-x q) = largest-xs
-poolKind (smallest-y x0 x1) = smallest-ys
-poolKind (list q out) = listings
-
--- of a strip call
-abbrev pub stripKind : StripCall → Kind
-stripKind (opens n) = openings
-stripKind (closes n) = closings
-stripKind (first u) = firsts
-stripKind (last u e) = lasts
-stripKind (earliest u v) = earliests
-stripKind (covers u out) = coverings
-stripKind (meets u v out) = meetings
-stripKind (contains u v out) = containings
-
--- of any call
-abbrev pub kindOf : Any → Kind
-kindOf (pool k) = poolKind k
-kindOf (strip k) = stripKind k
+-- the kind of a call
+abbrev pub kindOf : Call → Kind
+kindOf set-up = set-ups
 kindOf check = checks
+kindOf (insert p) = inserts
+kindOf (delete p) = deletes
+kindOf (smallest-x q) = smallest-xs
+kindOf (largest-x q) = largest-xs
+kindOf (smallest-y x0 x1) = smallest-ys
+kindOf (list q out) = listings
+kindOf (opens n) = openings
+kindOf (closes n) = closings
+kindOf (first u) = firsts
+kindOf (last u e) = lasts
+kindOf (earliest u v) = earliests
+kindOf (covers u out) = coverings
+kindOf (meets u v out) = meetings
+kindOf (contains u v out) = containings
 kindOf (save bytes) = saves
 
 -- whether calls of a kind write into what they are lent; a question for one pair writes nothing
@@ -71,31 +62,31 @@ writesOf saves = true
 
 -- the program meets the promise of a kind's calls, at every input and whenever it is called
 abbrev pub Keeps : Kind → Program → Type 0
-Keeps K g = (t : ℕ) (c : List ℕ) (k : Any) → kindOf k ≡ K → g t c k ≡ promised c k
+Keeps K g = (t : ℕ) (c : List ℕ) (k : Call) → kindOf k ≡ K → g t c k ≡ promised c k
 
 -- it meets the promise of every call
 abbrev pub KeepsAll : Program → Type 0
-KeepsAll g = (t : ℕ) (c : List ℕ) (k : Any) → g t c k ≡ promised c k
+KeepsAll g = (t : ℕ) (c : List ℕ) (k : Call) → g t c k ≡ promised c k
 
 -- always refusing
 abbrev pub AlwaysRefuses : Kind → Program → Type 0
-AlwaysRefuses K g = (t : ℕ) (c : List ℕ) (k : Any) → kindOf k ≡ K → isRefusal (g t c k .answer .outcome) ≡ true
+AlwaysRefuses K g = (t : ℕ) (c : List ℕ) (k : Call) → kindOf k ≡ K → isRefusal (g t c k .answer .outcome) ≡ true
 
 -- one constant answer
 pub record OneAnswer (K : Kind) (g : Program) : Type 0 where
   pub answer : Five
-  pub always : (t : ℕ) (c : List ℕ) (k : Any) → kindOf k ≡ K → five (g t c k .answer) ≡ answer
+  pub always : (t : ℕ) (c : List ℕ) (k : Call) → kindOf k ≡ K → five (g t c k .answer) ≡ answer
 
 -- changing nothing: all that is lent stays as it was
 pub record Idle (K : Kind) (g : Program) : Type 0 where
-  pub cells : (t : ℕ) (c : List ℕ) (k : Any) → kindOf k ≡ K → g t c k .cells ≡ c
-  pub lent : (t : ℕ) (c : List ℕ) (k : Any) → kindOf k ≡ K → g t c k .lent ≡ lentBy k
+  pub cells : (t : ℕ) (c : List ℕ) (k : Call) → kindOf k ≡ K → g t c k .cells ≡ c
+  pub lent : (t : ℕ) (c : List ℕ) (k : Call) → kindOf k ≡ K → g t c k .lent ≡ lentBy k
 
 -- working on the first call and pretending later: some later call does not do what the first would have done
 pub record Pretends (K : Kind) (g : Program) : Type 0 where
   pub before : ℕ
   pub cells : List ℕ
-  pub call : Any
+  pub call : Call
   pub kind : kindOf call ≡ K
   pub differs : g before cells call ≢ g 0 cells call
 
@@ -103,7 +94,7 @@ pub record Pretends (K : Kind) (g : Program) : Type 0 where
 pub record MadeUp (K : Kind) (g : Program) : Type 0 where
   pub before : ℕ
   pub cells : List ℕ
-  pub call : Any
+  pub call : Call
   pub kind : kindOf call ≡ K
   pub serves : isRefusal (g before cells call .answer .outcome) ≡ false
   pub differs : five (g before cells call .answer) .visits ≢ visitsOf cells call
@@ -124,14 +115,6 @@ Served code = (code ≡ 0) ⊎ ((code ≡ 8) ⊎ (code ≡ 10))
 unfoldable pub runs : Program → ℕ → List Call → List ℕ → Run
 runs g t [] c = record { outcomes = []; cells = c }
 runs g t (k ∷ ks) c =
-    let w : Result = g t c (pool k) in
+    let w : Result = g t c k in
     let r : Run = runs g (suc t) ks (w .cells) in
-    record { outcomes = w .answer .outcome ∷ r .outcomes; cells = r .cells }
-
--- the same of strip calls
-unfoldable pub stripRuns : Program → ℕ → List StripCall → List ℕ → StripRun
-stripRuns g t [] c = record { outcomes = []; cells = c }
-stripRuns g t (k ∷ ks) c =
-    let w : Result = g t c (strip k) in
-    let r : StripRun = stripRuns g (suc t) ks (w .cells) in
     record { outcomes = w .answer .outcome ∷ r .outcomes; cells = r .cells }

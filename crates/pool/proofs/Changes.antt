@@ -18,8 +18,7 @@ use Rattle.rule.proofs.Same.{same-set}
 use Rattle.rule.proofs.Stored.{stored-mem}
 use Rattle.rule.proofs.Inserted.{inserted-sound, inserted-stored}
 use Rattle.rule.proofs.Deleted.{deleted-sound, deleted-stored, deleted-gone}
-use Rattle.pool.specs.Changing.{insertion, deletion}
-use Rattle.pool.specs.TakingBack.{accepted}
+use Rattle.pool.specs.Changing.{insertion, deletion, accepted}
 use Rattle.pool.proofs.Views.{Does, refuses, makes, insertion-view, deletion-view}
 
 module _ {c d : List ℕ} {M : Type 0} where

@@ -1,9 +1,7 @@
 -- What the promises mean.
 pub mod Views
 pub mod Changes
-pub mod TakenBack
-pub mod Questions
-pub mod Played
+pub mod Shown
 pub mod Entries
 pub mod Bounds
 pub mod Asked

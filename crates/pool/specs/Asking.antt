@@ -1,6 +1,6 @@
 -- What the four questions answer, for every pool and all numbers: the finding is that of a plain scan of the stored list, the visits are the walk's.
 use Prim.Native.Nat.{ℕ}
-use mathlib.Core.Bool.{Bool, cond}
+use mathlib.Core.Bool.{Bool}
 use mathlib.Core.List.{List, [], _∷_}
 use lib.Dec.{ltb}
 use lib.ListN.{length, take}
@@ -9,7 +9,7 @@ use Rattle.rule.specs.declared.Finding.{Finding}
 use Rattle.rule.specs.declared.Finding.the-variants.{Found as found-pair, Nothing as no-pair}
 use Rattle.rule.specs.declared.Limits.{Limits}
 use Rattle.rule.specs.declared.Outcome.{Outcome}
-use Rattle.rule.specs.declared.Outcome.the-variants.{Found, Nothing, Listed, Refused}
+use Rattle.rule.specs.declared.Outcome.the-variants.{Found, Nothing, Listed}
 use Rattle.rule.specs.declared.Pair.{Pair}
 use Rattle.rule.specs.Cells.{rootOf, stored, treeAt}
 use Rattle.rule.specs.Codes as codes
@@ -33,10 +33,6 @@ backwardsLine x0 x1 = record { code = codes.backwards; when = ltb x1 x0 }
 abbrev pub outcomeOf : Finding → Outcome
 outcomeOf (found-pair p) = Found p
 outcomeOf no-pair = Nothing
-
--- a question's outcome on a sound pool: refused where x0 > x1
-abbrev pub asks : ℕ → ℕ → Outcome → Outcome
-asks x0 x1 o = cond (ltb x1 x0) (Refused codes.backwards) o
 
 -- a finding, with the visits beside it
 abbrev pub answered : Finding → ℕ → Answer

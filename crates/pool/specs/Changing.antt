@@ -1,10 +1,10 @@
 -- What insert and delete answer, and what each cell then holds, for every pool and all numbers.
 use Prim.Native.Nat.{ℕ}
-use mathlib.Core.Bool.{not, _&&_}
+use mathlib.Core.Bool.{Bool, not, _&&_}
 use mathlib.Core.List.{List, [], _∷_}
 use lib.Dec.{eqb}
 use Rattle.rule.specs.declared.Pair.{Pair}
-use Rattle.rule.specs.Answer.{finished}
+use Rattle.rule.specs.Answer.{five, finished}
 use Rattle.rule.specs.Cells.{freeOf, stored}
 use Rattle.rule.specs.Codes as codes
 use Rattle.rule.specs.Laid.{inserted, deleted}
@@ -37,3 +37,7 @@ insertion c p =
 unfoldable pub deletion : List ℕ → Pair → Left
 deletion c p =
     leftBy (lengthLine c ∷ soundLine c ∷ missingLine c p ∷ otherLine c p ∷ []) c (record { cells = deleted c (p .x); answer = finished })
+
+-- a change is accepted where its code is 0
+abbrev pub accepted : Left → Bool
+accepted w = eqb (five (w .answer) .code) codes.done

@@ -1,6 +1,4 @@
--- The promises of the calls over a pool, then what they mean over runs of calls.
+-- The promises of the calls over a pool, and what a listing shows.
 pub mod Changing
 pub mod Asking
 pub mod Showing
-pub mod TakingBack
-pub mod Playing

@@ -9,8 +9,7 @@ use Rattle.rule.specs.declared.Limits.{Limits}
 use Rattle.rule.specs.declared.Finding.{Finding}
 use Rattle.rule.specs.declared.Finding.the-variants.{Found, Nothing}
 use Rattle.rule.specs.Pairs.{beats}
-use Rattle.rule.specs.Plain.{inRange, matches, own, closest, scan, smaller, larger, smallestXOf, largestXOf, smallestYOf, Closest, NoMatch}
-pub use Rattle.rule.specs.Plain.{Alike}
+use Rattle.rule.specs.Plain.{inRange, matches, own, closest, scan, smaller, larger, smallestXOf, largestXOf, smallestYOf, Closest, NoMatch, Alike}
 use Rattle.rule.specs.Tree.{Apart}
 use Rattle.rule.proofs.Tests.{on, clash}
 use Rattle.rule.proofs.Best.{Ranks, by-smaller, by-larger, by-beats, closest-nothing, closest-assoc}

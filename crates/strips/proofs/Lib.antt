@@ -2,5 +2,4 @@
 pub mod Limits
 pub mod Rider
 pub mod Tabled
-pub mod Runs
 pub mod Bounds

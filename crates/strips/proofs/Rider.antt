@@ -25,7 +25,7 @@ use Rattle.rule.proofs.Stored.{stored-mem, stored-apart}
 use Rattle.rule.proofs.TakenBack.{member-low}
 use Rattle.pool.specs.Asking.{outcomeOf, listingLeft}
 use Rattle.pool.specs.Showing.{Shows}
-use Rattle.pool.proofs.Questions.{listing-shows}
+use Rattle.pool.proofs.Shown.{listing-shows}
 use Rattle.strips.specs.Strips.{startOf, endOf, Covers, Meets, Contains, over, coversLimits, lastLimits, meetsLimits, containsLimits}
 use Rattle.strips.specs.Promises.{firstToEnd, lastToEnd, earliestStart, listCovers, listMeets, listContains}
 use Rattle.strips.specs.Riding.{Ahead, Behind, Unbeaten, CoversBy, EndsIn, CoversSome, CoversAll, Drawn, None}

@@ -1,5 +1,4 @@
--- Strips as pairs, the promises of the strip calls, what a rider may read in them, and runs of calls.
+-- Strips as pairs, the promises of the strip calls, and what a rider may read in them.
 pub mod Strips
 pub mod Promises
 pub mod Riding
-pub mod Runs

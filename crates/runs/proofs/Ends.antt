@@ -1,17 +1,19 @@
--- Playing calls over a sound pool gives, call by call, the outcomes of the same calls over a plain list with the same pairs.
-use Prim.Native.Nat.{ℕ, _-_, _≤_, _<_}
+-- Each call over a pool, from a sound one and a plain list with the same pairs: it ends alike over both, and leaves them the same.
+use Prim.Native.Nat.{ℕ, _≤_, _<_}
 use mathlib.Core.Path.{_≡_, refl, sym, ap, _∙_}
-use mathlib.Core.Logic.{_≢_, _⊎_, inl, inr, ⊎-elim}
+use mathlib.Core.Logic.{_≢_, inl, inr, ⊎-elim}
 use mathlib.Core.Bool.{true, false, not}
 use mathlib.Core.List.{List, [], _∷_, map, List·Memᴰ·head, List·Memᴰ·tail, List·Memᴰ·cases-cons}
 use native.Mathlib.Omega.{arith}
-use lib.Dec.{leb, eqb}
+use lib.Dec.{ltb, leb, eqb}
 use lib.ListN.{length}
 use borrow.Author.Tests.{ne-eqb, le-leb, lt-leb, eqb-true, eqb-false, not-true}
+use Rattle.rule.specs.declared.Limits.{Limits}
+use Rattle.rule.specs.declared.Outcome.{Outcome}
 use Rattle.rule.specs.declared.Pair.{Pair}
-use Rattle.rule.specs.Cells.{slotsOf, freeOf, countOf, stored}
+use Rattle.rule.specs.Cells.{slotsOf, freeOf, stored}
 use Rattle.rule.specs.Laid.{inserted, deleted}
-use Rattle.rule.specs.Plain.{hasX, has}
+use Rattle.rule.specs.Plain.{hasX, has, Alike}
 use Rattle.rule.specs.Refusals.{leftBy}
 use Rattle.rule.specs.Sound.{Sound, Chain, ends, next}
 use Rattle.rule.specs.Tree.{Differs, Apart}
@@ -23,25 +25,15 @@ use Rattle.rule.proofs.Fresh.{fresh-sound, fresh-stored, fresh-slots}
 use Rattle.rule.proofs.Having.{hasX-true, true-hasX, has-true, true-has}
 use Rattle.rule.proofs.Inserted.{inserted-sound, inserted-length, inserted-stored}
 use Rattle.rule.proofs.Deleted.{deleted-sound, deleted-length, deleted-stored, deleted-gone}
-use Rattle.rule.proofs.Scan.{Alike}
 use Rattle.rule.proofs.Stored.{stored-apart, stored-count}
-use Rattle.sound.proofs.Meaning.{set-up-done}
+use Rattle.sound.proofs.Meaning.{check-sound, set-up-done}
 use Rattle.pool.specs.Changing.{insertion, deletion}
-use Rattle.pool.specs.Playing.{Call, set-up, insert, delete, smallest-x, largest-x, smallest-y, list, Played, play, Book, Kept, without, plainly, Run, playAll, Told, plainlyAll, SmallX, AllSmallX}
 use Rattle.pool.proofs.Views.{new-of, has-mem}
-use Rattle.pool.proofs.Questions.{smallestX-plain, largestX-plain, smallestY-plain, listing-plain}
-
--- a pool and a plain list hold the same
-pub record Same (c : List ℕ) (b : Book) : Type 0 where
-  pub sound : Sound c
-  pub alike : Alike (stored c) (b .pairs)
-  pub apart : Apart (map (λ p. p .x) (b .pairs))
-  pub room : slotsOf c ≡ b .room
-
--- a call ends alike over both, and leaves them the same
-pub record Ends (w : Played) (k : Kept) : Type 0 where
-  pub outcome : w .outcome ≡ k .outcome
-  pub same : Same (w .cells) (k .book)
+use Rattle.book.specs.Book.{bytesFor}
+use Rattle.book.specs.Promises.{saved}
+use Rattle.runs.specs.Calls.{set-up, check, insert, delete, smallest-x, largest-x, smallest-y, list, save, promised}
+use Rattle.runs.specs.Playing.{play, Book, plainBy, without, asked, plainly, Same, Ends}
+use Rattle.runs.proofs.Plain.{forwards, smallestX-plain, largestX-plain, smallestY-plain, listing-plain}
 
 -- the tests over two lists with the same pairs
 hasX-alike : (x : ℕ) (ps qs : List Pair) → Alike ps qs → hasX x ps ≡ hasX x qs
@@ -80,12 +72,13 @@ module _ (c : List ℕ) (b : Book) (h : Same c b) where
   chain-some ends n = absurd (n refl)
   chain-some (next o f r) n = omega arith
 
-  count-is : length (b .pairs) ≡ countOf c
-  count-is = sym (length-alike (stored c) (b .pairs) (stored-apart s) (h .apart) (h .alike)) ∙ stored-count s
+  as-many : length (stored c) ≡ length (b .pairs)
+  as-many = length-alike (stored c) (b .pairs) (stored-apart s) (h .apart) (h .alike)
 
   full-is : eqb (freeOf c) 0 ≡ leb (b .room) (length (b .pairs))
   full-is =
-      let n = count-is in
+      let n = as-many in
+      let k = stored-count s in
       let r = s .rest in
       let m = h .room in
       on (eqb (freeOf c) 0)
@@ -95,8 +88,8 @@ module _ (c : List ℕ) (b : Book) (h : Same c b) where
   abbrev stays : Same c (record { pairs = b .pairs; room = b .room })
   stays = h
 
-  insert-ends : (p : Pair) → p .x < 4294967296 → Ends (play c (insert p)) (plainly b (insert p))
-  unfolding play plainly insertion leftBy
+  pub insert-ends : (p : Pair) → p .x < 4294967296 → Ends (play c (insert p)) (plainly b (insert p))
+  unfolding play promised plainly plainBy insertion leftBy
   insert-ends p small =
       rw (true-pool c (s .pool), sound-test c s, hasX-alike (p .x) (stored c) (b .pairs) (h .alike), full-is)
       (on (hasX (p .x) (b .pairs))
@@ -122,8 +115,8 @@ module _ (c : List ℕ) (b : Book) (h : Same c b) where
             room = rw l e;
           }
 
-  delete-ends : (p : Pair) → Ends (play c (delete p)) (plainly b (delete p))
-  unfolding play plainly deletion leftBy
+  pub delete-ends : (p : Pair) → Ends (play c (delete p)) (plainly b (delete p))
+  unfolding play promised plainly plainBy deletion leftBy
   delete-ends p =
       rw (true-pool c (s .pool), sound-test c s, hasX-alike (p .x) (stored c) (b .pairs) (h .alike), has-alike p (stored c) (b .pairs) (h .alike))
       (on (hasX (p .x) (b .pairs))
@@ -150,8 +143,8 @@ module _ (c : List ℕ) (b : Book) (h : Same c b) where
             room = rw l e;
           }
 
-  set-up-ends : Ends (play c set-up) (plainly b set-up)
-  unfolding play plainly
+  pub set-up-ends : Ends (play c set-up) (plainly b set-up)
+  unfolding play promised plainly
   set-up-ends =
       let p = s .pool in
       rw (set-up-done c p) (record {
@@ -164,30 +157,35 @@ module _ (c : List ℕ) (b : Book) (h : Same c b) where
         };
       })
 
-  -- law: one call
-  pub plays : (k : Call) → SmallX k → Ends (play c k) (plainly b k)
-  unfolding play plainly
-  plays set-up z = set-up-ends
-  plays (insert p) z = insert-ends p z
-  plays (delete p) z = delete-ends p
-  plays (smallest-x q) z = record { outcome = smallestX-plain s (b .pairs) (h .alike) q; same = stays }
-  plays (largest-x q) z = record { outcome = largestX-plain s (b .pairs) (h .alike) q; same = stays }
-  plays (smallest-y x0 x1) z = record { outcome = smallestY-plain s (b .pairs) (h .alike) x0 x1; same = stays }
-  plays (list q out) z = record { outcome = listing-plain s (b .pairs) (h .alike) (h .apart) q out; same = stays }
+  pub check-ends : Ends (play c check) (plainly b check)
+  unfolding play promised plainly
+  check-ends = rw (check-sound c .1 s) (record { outcome = refl; same = stays })
 
-pub record Agrees (r : Run) (t : Told) : Type 0 where
-  pub outcomes : r .outcomes ≡ t .outcomes
-  pub same : Same (r .cells) (t .book)
+  pub save-ends : (bytes : List ℕ) → Ends (play c (save bytes)) (plainly b (save bytes))
+  unfolding play promised plainly plainBy saved leftBy
+  save-ends bytes =
+      rw (true-pool c (s .pool), sound-test c s, as-many)
+      (on (ltb (length bytes) (bytesFor (length (b .pairs)))) (λ t. rw t (record { outcome = refl; same = stays })) (λ f. rw f (record { outcome = refl; same = stays })))
 
--- law: any run of calls, from any sound pool
-pub plays-all : (ks : List Call) (c : List ℕ) (b : Book) → AllSmallX ks → Same c b → Agrees (playAll ks c) (plainlyAll ks b)
-unfolding playAll plainlyAll
-plays-all [] c b z h = record { outcomes = refl; same = h }
-plays-all (k ∷ ks) c b z h =
-    let e = plays c b h k (z .0) in
-    let r = plays-all ks (play c k .cells) (plainly b k .book) (z .1) (e .same) in
-    record { outcomes = λ i. e .outcome i ∷ r .outcomes i; same = r .same }
+  -- a question that answers as over the list ends so
+  asked-ends : (x0 x1 : ℕ) (o r : Outcome) → r ≡ forwards x0 x1 o → Ends (record { cells = c; outcome = r }) (asked b x0 x1 o)
+  unfolding plainBy
+  asked-ends x0 x1 o r e = on (ltb x1 x0)
+      (λ t. rw t (record { outcome = rw t at e; same = stays }))
+      (λ f. rw f (record { outcome = rw f at e; same = stays }))
 
--- law: and a sound pool holds what its stored list holds
-pub same-stored : (c : List ℕ) → Sound c → Same c (record { pairs = stored c; room = slotsOf c })
-same-stored c s = record { sound = s; alike = λ q. (λ m. m, λ m. m); apart = stored-apart s; room = refl }
+  pub smallestX-ends : (q : Limits) → Ends (play c (smallest-x q)) (plainly b (smallest-x q))
+  unfolding play promised plainly
+  smallestX-ends q = asked-ends (q .x0) (q .x1) _ _ (smallestX-plain s (b .pairs) (h .alike) q)
+
+  pub largestX-ends : (q : Limits) → Ends (play c (largest-x q)) (plainly b (largest-x q))
+  unfolding play promised plainly
+  largestX-ends q = asked-ends (q .x0) (q .x1) _ _ (largestX-plain s (b .pairs) (h .alike) q)
+
+  pub smallestY-ends : (x0 x1 : ℕ) → Ends (play c (smallest-y x0 x1)) (plainly b (smallest-y x0 x1))
+  unfolding play promised plainly
+  smallestY-ends x0 x1 = asked-ends x0 x1 _ _ (smallestY-plain s (b .pairs) (h .alike) x0 x1)
+
+  pub listing-ends : (q : Limits) (out : List ℕ) → Ends (play c (list q out)) (plainly b (list q out))
+  unfolding play promised plainly
+  listing-ends q out = asked-ends (q .x0) (q .x1) _ _ (listing-plain s (b .pairs) (h .alike) (h .apart) q out)
