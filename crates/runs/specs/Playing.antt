@@ -1,9 +1,8 @@
 -- Runs of calls: played over cells by the promises, and over a plain list; and what it is that the two agree.
 use Prim.Native.Nat.{ℕ, min, _+_, _*_, _<_}
 use mathlib.Core.Path.{_≡_}
-use mathlib.Core.Logic.{_↔_}
 use mathlib.Core.Bool.{cond, not, _&&_, _||_}
-use mathlib.Core.List.{List, [], _∷_, map, List·Memᴰ}
+use mathlib.Core.List.{List, [], _∷_, map}
 use lib.Dec.{ltb, leb, eqb}
 use lib.ListN.{length}
 use Rattle.rule.specs.declared.Limits.{Limits}
@@ -13,7 +12,7 @@ use Rattle.rule.specs.declared.Pair.{Pair}
 use Rattle.rule.specs.Answer.{finished}
 use Rattle.rule.specs.Cells.{slotsOf, stored}
 use Rattle.rule.specs.Codes as codes
-use Rattle.rule.specs.Plain.{matches, those, smallestXOf, largestXOf, smallestYOf, hasX, has}
+use Rattle.rule.specs.Plain.{matches, those, smallestXOf, largestXOf, smallestYOf, Alike, hasX, has}
 use Rattle.rule.specs.Refusals.{Line}
 use Rattle.rule.specs.Sound.{Sound}
 use Rattle.rule.specs.Tree.{Apart}
@@ -150,7 +149,7 @@ SmallX k = (p : Pair) → k ≡ insert p → p .x < 4294967296
 -- a sound pool and a plain list hold the same pairs, each x once, and have the same room
 pub record Same (c : List ℕ) (b : Book) : Type 0 where
   pub sound : Sound c
-  pub alike : (p : Pair) → List·Memᴰ p (stored c) ↔ List·Memᴰ p (b .pairs)
+  pub alike : Alike (stored c) (b .pairs)
   pub apart : Apart (map (λ p. p .x) (b .pairs))
   pub room : slotsOf c ≡ b .room
 
