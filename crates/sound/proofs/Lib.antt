@@ -5,3 +5,4 @@ pub mod Whole
 pub mod Judged
 pub mod Meaning
 pub mod Lines
+pub mod Tested
