@@ -127,8 +127,3 @@ module _ (c : List ℕ) where
       (λ e. on (slotFine c s rootStripe)
       (λ f. let h = below-few lowLevels s rootStripe (eqb-false s 0 e) f in rw (e, f) (omega (arith, h)))
       (λ f. rw (e, f) (omega arith)))
-
--- the one more is met: where the only slot is its own left son, it passes once and is then refused
-pub looped : testedSlots (1 ∷ 1 ∷ 0 ∷ 1 ∷ 6 ∷ 8 ∷ 1 ∷ 0 ∷ []) ≡ 2
-unfolding testedSlots testedBelow tested fine slotFine holds beats
-looped = refl
