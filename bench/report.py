@@ -7,7 +7,7 @@ QUESTIONS = [("smallest_x", "smallest x"), ("largest_x", "largest x"), ("smalles
 CHANGES = ("changes", "delete + insert")
 PROGRAMS = ["library", "tree", "checked", "list"]
 TREES = PROGRAMS[:3]
-# at the largest n: instructions a slot of the check, and times the Rust tree of what is beyond the check
+# at every n: instructions a slot of the check, and times the Rust tree of what is beyond the check
 MOST_A_SLOT = 110
 MOST_TIMES = 1.15
 
@@ -114,17 +114,20 @@ def small_tables(counts):
     yield ""
 
 
-def limit(what, number, most):
-    yield f"  {what}: {number:.2f}, at most {most:.2f}: {'met' if number <= most else 'missed'}"
+def limit(what, numbers, most):
+    """A limit and, for each n, the number that it is about and whether it is met."""
+    yield f"  {what}, at most {most:.2f}"
+    for n, number in numbers:
+        yield f"    n = {n}: {number:.2f}, {'met' if number <= most else 'missed'}"
 
 
 def limits(counts):
-    """The agreed limits, at the largest n."""
-    n = counts.sizes[-1]
-    yield f"Limits, at n = {n}"
-    yield from limit("check, instructions a slot", counts.cost(n, "check", "library") / n, MOST_A_SLOT)
-    yield from limit("smallest x beyond the check, times the Rust tree without a check", counts.times(n, "smallest_x"), MOST_TIMES)
-    yield from limit("delete and insert beyond the check, times the Rust tree without a check", counts.times(n, "changes"), MOST_TIMES)
+    """The agreed limits, at every n."""
+    yield "Limits"
+    yield from limit("check, instructions a slot", [(n, counts.cost(n, "check", "library") / n) for n in counts.sizes], MOST_A_SLOT)
+    for kind, name in ("smallest_x", "smallest x"), ("changes", "delete and insert"):
+        times = [(n, counts.times(n, kind)) for n in counts.sizes]
+        yield from limit(f"{name} beyond the check, times the Rust tree without a check", times, MOST_TIMES)
 
 
 # ---- the picture: two panels with logarithmic axes, a line for each program, told apart by marks and dashes as well as by colour
