@@ -18,6 +18,8 @@ use Rattle.rule.specs.Walks.{seen}
 use Rattle.rule.proofs.Best.{Ranks}
 use Rattle.rule.proofs.Leads.{tree-none, within-more}
 use Rattle.questions.specs.Walking.{foundAt}
+use Rattle.nearest.specs.declared.cut.Cut.{Cut}
+use Rattle.nearest.specs.Cuts.{stripeBy}
 use Rattle.nearest.specs.Nearer.{Nearer}
 use Rattle.nearest.specs.Waiting.{Place, place, treeOf, after, since, inTurn, slotsAt, Stands, Stand, Going}
 use Rattle.nearest.proofs.Sides.{Sons}
@@ -25,13 +27,13 @@ use Rattle.nearest.proofs.Turns.{after-none, since-end, too-high, visit
 
 -- with more levels allowed
 lower : (c : List ℕ) (j k : ℕ) (p : Place) → j ≤ k → Stands c j p → Stands c k p
-lower c j k p h o = record { leads = o .leads; low = o .low; levels = within-more j k (treeOf c p) h (o .levels) }
+lower c j k p h o = record { leads = o .leads; levels = within-more j k (treeOf c p) h (o .levels); height = o .height; cut = o .cut; room = o .room }
 
 module _ (W : Stripe → Tree Pair → Walked) (empty : (at : Stripe) → W at none ≡ seen Nothing 0) (c : List ℕ) where
   -- an empty place gives nothing, and has nothing
   skip : (p : Place) (ps : List Place) → p .slot ≡ 0 → inTurn W c (p ∷ ps) ≡ inTurn W c ps
   unfolding inTurn
-  skip p ps e = rw (tree-none c allLevels (p .slot) e, empty (p .at)) (after-none (inTurn W c ps))
+  skip p ps e = rw (tree-none c allLevels (p .slot) e, empty (stripeBy (p .at))) (after-none (inTurn W c ps))
 
   -- what waits, and none where there is a hit
   turn-still : (hit : Bool) (ws : List Place) → inTurn W c (cond hit [] ws) ≡ cond hit (seen Nothing 0) (inTurn W c ws)
@@ -75,7 +77,7 @@ module _ (W : Stripe → Tree Pair → Walked) (empty : (at : Stripe) → W at n
           stand = (lower c (allLevels - length (z ∷ ps)) (allLevels - length ps) p (omega arith) (G .stand .0), G .stand .1 .1);
           some = G .some;
           few = omega arith;
-          asked = ap (λ w. since closer (foundAt c best) v (after (W (p .at) (treeOf c p)) w)) (sym (skip z ps e)) ∙ G .asked;
+          asked = ap (λ w. since closer (foundAt c best) v (after (W (stripeBy (p .at)) (treeOf c p)) w)) (sym (skip z ps e)) ∙ G .asked;
         }
 
     -- law: the end
@@ -83,7 +85,7 @@ module _ (W : Stripe → Tree Pair → Walked) (empty : (at : Stripe) → W at n
     unfolding inTurn
     ends G = sym (since-end closer (foundAt c best) v) ∙ G .asked
 
-    module _ (q : Limits) (s : ℕ) (at : Stripe) (ws : List Place) (near far : Place) (G : Going W closer c answer (place s at ∷ ws) best v) (ne : s ≡ 0 → ⊥)
+    module _ (q : Limits) (s : ℕ) (at : Cut) (ws : List Place) (near far : Place) (G : Going W closer c answer (place s at ∷ ws) best v) (ne : s ≡ 0 → ⊥)
         (S : Sons W closer q c (allLevels - length ws) (place s at) near far) where
       -- law: a slot whose y is too high gives nothing, at one visit
       pub nothing-here : (p : Pair) → p ≡ pairAt c s → q .y1 < p .y → Going W closer c answer (place 0 at ∷ ws) best (v + 1)
@@ -94,11 +96,11 @@ module _ (W : Stripe → Tree Pair → Walked) (empty : (at : Stripe) → W at n
           let e = tree-none c allLevels 0 refl in
           let n : size (treeAt c allLevels 0) ≡ 0 = rw e in
           record {
-            stand = (record { leads = rw e nowhere; low = G .stand .0 .low; levels = rw e tt }, G .stand .1);
+            stand = (record { leads = rw e nowhere; levels = rw e tt; height = G .stand .0 .height; cut = G .stand .0 .cut; room = rw e tt }, G .stand .1);
             some = G .some;
             few = omega arith;
             asked = ap (λ w. since closer (foundAt c best) (v + 1) w) (skip (place 0 at) ws refl)
-                ∙ (sym (too-high q closer (pairAt c s) (W (near .at) (treeOf c near)) (W (far .at) (treeOf c far)) (inTurn W c ws) (foundAt c best) v (rw ep at h))
+                ∙ (sym (too-high q closer (pairAt c s) (W (stripeBy (near .at)) (treeOf c near)) (W (stripeBy (far .at)) (treeOf c far)) (inTurn W c ws) (foundAt c best) v (rw ep at h))
                 ∙ (ap (λ w. since closer (foundAt c best) v (after w (inTurn W c ws))) (sym (S .gives)) ∙ G .asked));
           }
 
@@ -111,8 +113,8 @@ module _ (W : Stripe → Tree Pair → Walked) (empty : (at : Stripe) → W at n
           let z = S .slots in
           let n = slots-still hit ws in
           let m = length-still hit ws in
-          let near-is = W (near .at) (treeOf c near) in
-          let far-is = W (far .at) (treeOf c far) in
+          let near-is = W (stripeBy (near .at)) (treeOf c near) in
+          let far-is = W (stripeBy (far .at)) (treeOf c far) in
           record {
             stand = (
               S .near-stands (allLevels - length (far ∷ cond hit [] ws)) (omega arith),

@@ -20,16 +20,19 @@ use Rattle.rule.proofs.Leads.{tree-none, tree-fork, tree-within, leads-fits}
 use Rattle.questions.specs.Walking.{foundAt}
 use Rattle.questions.proofs.Finding.{no-slot, found-none}
 use Rattle.questions.proofs.Top.{root-asked}
+use Rattle.nearest.specs.declared.cut.Cut.{Cut}
+use Rattle.nearest.specs.Cuts.{rootCut, MiddleFits}
 use Rattle.nearest.specs.Nearer.{Nearer}
 use Rattle.nearest.specs.Waiting.{Place, place, waiting, after, inTurn, slotsAt, Stands, Stand, Going, Held}
+use Rattle.nearest.proofs.Cuts.{root-at, cut-fits}
 use Rattle.nearest.proofs.Going.{next, alone, ends, nothing-here, visit, fewer}
 use Rattle.nearest.proofs.Rows.{waiting-length, waiting-none, waiting-still, waiting-last, waiting-more}
 use Rattle.nearest.proofs.Sides.{ByX, Sons}
 use Rattle.nearest.proofs.Turns.{since-start, after-end}
 
 -- what falls with each turn: a visit takes a slot away and puts at most one place into the rows
-abbrev pub toWalk : List ℕ → (slots lowers uppers : List ℕ) → (wait slot : ℕ) → Stripe → ℕ
-toWalk c slots lowers uppers wait slot at = 2 * slotsAt c (place slot at ∷ waiting slots lowers uppers wait) + wait
+abbrev pub toWalk : List ℕ → (slots lowers halves : List ℕ) → (wait slot : ℕ) → Cut → ℕ
+toWalk c slots lowers halves wait slot at = 2 * slotsAt c (place slot at ∷ waiting slots lowers halves wait) + wait
 
 still-less : (hit : Bool) (n : ℕ) → cond hit 0 n ≤ n
 still-less true n = omega arith
@@ -43,20 +46,24 @@ module _ (c : List ℕ) (s : ℕ) (ne : s ≡ 0 → ⊥) where
   a-level zero w = absurd (rw (tree-fork c lowLevels s ne) at w)
   a-level (suc k) w = omega arith
 
-module _ {W : Stripe → Tree Pair → Walked} {closer : Pair → Pair → Bool} {c : List ℕ} {answer : Walked} {slots lowers uppers : List ℕ} {wait s : ℕ} {at : Stripe} {best v : ℕ}
-    (H : Held W closer c answer slots lowers uppers wait s at best v) where
+module _ {W : Stripe → Tree Pair → Walked} {closer : Pair → Pair → Bool} {c : List ℕ} {answer : Walked} {slots lowers halves : List ℕ} {wait s : ℕ} {at : Cut} {best v : ℕ}
+    (H : Held W closer c answer slots lowers halves wait s at best v) where
   abbrev ws : List Place
-  ws = waiting slots lowers uppers wait
+  ws = waiting slots lowers halves wait
 
-  pub standing : Stands c (allLevels - length (waiting slots lowers uppers wait)) (place s at)
+  pub standing : Stands c (allLevels - length (waiting slots lowers halves wait)) (place s at)
   unfolding Stand
   standing = H .going .stand .0
 
+  -- law: the middle there is a number of 32 bits
+  pub middle-fits : MiddleFits at
+  middle-fits = cut-fits (standing .height) at (standing .cut)
+
   pub pop-less : (wait ≡ 0 → ⊥)
-      → toWalk c slots lowers uppers (wait - 1) (getD slots (wait - 1) 0) (record { lower = getD lowers (wait - 1) 0; upper = getD uppers (wait - 1) 0 })
-      < toWalk c slots lowers uppers wait s at
+      → toWalk c slots lowers halves (wait - 1) (getD slots (wait - 1) 0) (record { lower = getD lowers (wait - 1) 0; half = getD halves (wait - 1) 0 })
+      < toWalk c slots lowers halves wait s at
   unfolding slotsAt
-  pop-less nz = rw (waiting-last slots lowers uppers wait nz) (omega (arith, nz))
+  pop-less nz = rw (waiting-last slots lowers halves wait nz) (omega (arith, nz))
 
   module _ (ne : s ≡ 0 → ⊥) where
     pub fits : Fits c s
@@ -67,7 +74,7 @@ module _ {W : Stripe → Tree Pair → Walked} {closer : Pair → Pair → Bool}
     unfolding slotsAt
     one-more = let f = H .going .few in let z = a-slot c s ne in omega arith
 
-    pub high-less : toWalk c slots lowers uppers wait 0 at < toWalk c slots lowers uppers wait s at
+    pub high-less : toWalk c slots lowers halves wait 0 at < toWalk c slots lowers halves wait s at
     unfolding slotsAt
     high-less =
         let z = a-slot c s ne in
@@ -77,102 +84,102 @@ module _ {W : Stripe → Tree Pair → Walked} {closer : Pair → Pair → Bool}
   module _ (B : ByX W closer) where
     -- law: the walk is at its end where no place is left
     pub stop : s ≡ 0 → wait ≡ 0 → {f : Finding} → f ≡ foundAt c best → seen f v ≡ answer
-    stop e z ef = rw ef (ends W (B .empty) c closer answer best v (rw (waiting-none slots lowers uppers wait z) at (next W (B .empty) c closer answer best v (place s at) ws e (H .going))))
+    stop e z ef = rw ef (ends W (B .empty) c closer answer best v (rw (waiting-none slots lowers halves wait z) at (next W (B .empty) c closer answer best v (place s at) ws e (H .going))))
 
     -- law: the place that was put into the rows last is next
     pub pop : s ≡ 0 → (wait ≡ 0 → ⊥)
-        → Held W closer c answer slots lowers uppers (wait - 1) (getD slots (wait - 1) 0) (record { lower = getD lowers (wait - 1) 0; upper = getD uppers (wait - 1) 0 }) best v
+        → Held W closer c answer slots lowers halves (wait - 1) (getD slots (wait - 1) 0) (record { lower = getD lowers (wait - 1) 0; half = getD halves (wait - 1) 0 }) best v
     pop e nz =
         let m = H .most in
         record {
           room = H .room;
           most = omega arith;
-          going = rw (waiting-last slots lowers uppers wait nz) at (next W (B .empty) c closer answer best v (place s at) ws e (H .going));
+          going = rw (waiting-last slots lowers halves wait nz) at (next W (B .empty) c closer answer best v (place s at) ws e (H .going));
         }
 
-    module _ (ne : s ≡ 0 → ⊥) {q : Limits} {near far : Place} (S : Sons W closer q c (allLevels - length (waiting slots lowers uppers wait)) (place s at) near far)
+    module _ (ne : s ≡ 0 → ⊥) {q : Limits} {near far : Place} (S : Sons W closer q c (allLevels - length (waiting slots lowers halves wait)) (place s at) near far)
         {p : Pair} (ep : p ≡ pairAt c s) where
       -- law: a slot whose y is too high gives nothing
-      pub too-high : q .y1 < p .y → Held W closer c answer slots lowers uppers wait 0 at best (v + 1)
+      pub too-high : q .y1 < p .y → Held W closer c answer slots lowers halves wait 0 at best (v + 1)
       too-high h = record { room = H .room; most = H .most; going = nothing-here W (B .empty) c closer answer best v q s at ws near far (H .going) ne S p ep h }
 
       module _ (h : p .y ≤ q .y1) {hit : Bool} (eh : hit ≡ inRange (q .x0) (q .x1) p) {b : ℕ} (N : Nearer c closer hit s best b)
           {kept : ℕ} (ek : kept ≡ cond hit 0 wait) where
-        after-visit : Going W closer c answer (near ∷ far ∷ waiting slots lowers uppers kept) b (v + 1)
-        after-visit = rw (ek, waiting-still slots lowers uppers hit wait) (visit W (B .empty) c closer answer best v q s at ws near far (H .going) ne S (B .ranks) p ep h hit eh b N)
+        after-visit : Going W closer c answer (near ∷ far ∷ waiting slots lowers halves kept) b (v + 1)
+        after-visit = rw (ek, waiting-still slots lowers halves hit wait) (visit W (B .empty) c closer answer best v q s at ws near far (H .going) ne S (B .ranks) p ep h hit eh b N)
 
-        fewer-slots : slotsAt c (near ∷ far ∷ waiting slots lowers uppers kept) + 1 ≤ slotsAt c (place s at ∷ waiting slots lowers uppers wait)
-        fewer-slots = rw (ek, waiting-still slots lowers uppers hit wait) (fewer W (B .empty) c closer answer best v q s at ws near far (H .going) ne S hit)
+        fewer-slots : slotsAt c (near ∷ far ∷ waiting slots lowers halves kept) + 1 ≤ slotsAt c (place s at ∷ waiting slots lowers halves wait)
+        fewer-slots = rw (ek, waiting-still slots lowers halves hit wait) (fewer W (B .empty) c closer answer best v q s at ws near far (H .going) ne S hit)
 
         fewer-waits : kept ≤ wait
         fewer-waits = rw ek (still-less hit wait)
 
         -- law: the far son is next where the near one is not asked
-        pub to-far : near .slot ≡ 0 → Held W closer c answer slots lowers uppers kept (far .slot) (far .at) b (v + 1)
+        pub to-far : near .slot ≡ 0 → Held W closer c answer slots lowers halves kept (far .slot) (far .at) b (v + 1)
         to-far e = record {
           room = H .room;
           most = omega (arith, H .most, fewer-waits);
-          going = next W (B .empty) c closer answer b (v + 1) near (far ∷ waiting slots lowers uppers kept) e after-visit;
+          going = next W (B .empty) c closer answer b (v + 1) near (far ∷ waiting slots lowers halves kept) e after-visit;
         }
 
         -- law: the near son is next, and where the far one is not asked no place is put into the rows
-        pub to-near : far .slot ≡ 0 → Held W closer c answer slots lowers uppers kept (near .slot) (near .at) b (v + 1)
+        pub to-near : far .slot ≡ 0 → Held W closer c answer slots lowers halves kept (near .slot) (near .at) b (v + 1)
         to-near e = record {
           room = H .room;
           most = omega (arith, H .most, fewer-waits);
-          going = alone W (B .empty) c closer answer b (v + 1) near far (waiting slots lowers uppers kept) e after-visit;
+          going = alone W (B .empty) c closer answer b (v + 1) near far (waiting slots lowers halves kept) e after-visit;
         }
 
         -- law: there is room for the far son's place
         pub room-left : (near .slot ≡ 0 → ⊥) → kept < lowLevels
         unfolding Stand
         room-left nn =
-            let k = a-level c (near .slot) nn (allLevels - length (far ∷ waiting slots lowers uppers kept)) (after-visit .stand .0 .levels) in
-            let n = waiting-length slots lowers uppers kept in
+            let k = a-level c (near .slot) nn (allLevels - length (far ∷ waiting slots lowers halves kept)) (after-visit .stand .0 .levels) in
+            let n = waiting-length slots lowers halves kept in
             omega arith
 
         -- law: the near son is next, and the far one's place waits
         pub push : (near .slot ≡ 0 → ⊥)
-            → Held W closer c answer (set slots kept (far .slot)) (set lowers kept (far .at .lower)) (set uppers kept (far .at .upper)) (kept + 1) (near .slot) (near .at) b (v + 1)
+            → Held W closer c answer (set slots kept (far .slot)) (set lowers kept (far .at .lower)) (set halves kept (far .at .half)) (kept + 1) (near .slot) (near .at) b (v + 1)
         push nn =
             let n = room-left nn in
             let r = H .room in
             record {
               room = simp length-set r;
               most = omega arith;
-              going = rw (waiting-more slots lowers uppers kept (far .slot) (far .at) (omega arith) (omega arith) (omega arith)) after-visit;
+              going = rw (waiting-more slots lowers halves kept (far .slot) (far .at) (omega arith) (omega arith) (omega arith)) after-visit;
             }
 
-        pub far-less : toWalk c slots lowers uppers kept (far .slot) (far .at) < toWalk c slots lowers uppers wait s at
+        pub far-less : toWalk c slots lowers halves kept (far .slot) (far .at) < toWalk c slots lowers halves wait s at
         unfolding slotsAt
         far-less = let a = fewer-slots in let b = fewer-waits in omega arith
 
-        pub near-less : toWalk c slots lowers uppers kept (near .slot) (near .at) < toWalk c slots lowers uppers wait s at
+        pub near-less : toWalk c slots lowers halves kept (near .slot) (near .at) < toWalk c slots lowers halves wait s at
         unfolding slotsAt
         near-less = let a = fewer-slots in let b = fewer-waits in omega arith
 
         pub push-less : (near .slot ≡ 0 → ⊥)
-            → toWalk c (set slots kept (far .slot)) (set lowers kept (far .at .lower)) (set uppers kept (far .at .upper)) (kept + 1) (near .slot) (near .at)
-            < toWalk c slots lowers uppers wait s at
+            → toWalk c (set slots kept (far .slot)) (set lowers kept (far .at .lower)) (set halves kept (far .at .half)) (kept + 1) (near .slot) (near .at)
+            < toWalk c slots lowers halves wait s at
         unfolding slotsAt
         push-less nn =
             let n = room-left nn in
             let r = H .room in
             let a = fewer-slots in
             let b = fewer-waits in
-            rw (waiting-more slots lowers uppers kept (far .slot) (far .at) (omega arith) (omega arith) (omega arith)) (omega arith)
+            rw (waiting-more slots lowers halves kept (far .slot) (far .at) (omega arith) (omega arith) (omega arith)) (omega arith)
 
 -- law: a walk starts at the root of a sound pool, with no place in the rows
 module _ (W : Stripe → Tree Pair → Walked) (closer : Pair → Pair → Bool) (c : List ℕ) (o : Sound c) where
-  pub start : (slots lowers uppers : List ℕ) → length slots ≡ lowLevels → length lowers ≡ lowLevels → length uppers ≡ lowLevels
-      → (s : ℕ) → s ≡ rootOf c → (at : Stripe) → at ≡ rootStripe
-      → Held W closer c (W rootStripe (treeAt c allLevels (rootOf c))) slots lowers uppers 0 s at 0 0
+  pub start : (slots lowers halves : List ℕ) → length slots ≡ lowLevels → length lowers ≡ lowLevels → length halves ≡ lowLevels
+      → (s : ℕ) → s ≡ rootOf c → (at : Cut) → at ≡ rootCut
+      → Held W closer c (W rootStripe (treeAt c allLevels (rootOf c))) slots lowers halves 0 s at 0 0
   unfolding Stand slotsAt inTurn
-  start slots lowers uppers a b d s es at ea = rw (es, ea) (record {
+  start slots lowers halves a b d s es at ea = rw (es, ea) (record {
     room = (a, b, d);
     most = omega arith;
-    going = rw (waiting-none slots lowers uppers 0 refl) (record {
-      stand = (record { leads = root-asked c o .leads; low = root-asked c o .low; levels = tree-within c allLevels (rootOf c) }, tt);
+    going = rw (waiting-none slots lowers halves 0 refl) (record {
+      stand = (record { leads = root-asked c o .leads; levels = tree-within c allLevels (rootOf c); height = lowLevels; cut = root-at; room = tree-within c allLevels (rootOf c) }, tt);
       some = no-slot c;
       few = let f = root-asked c o .few in omega arith;
       asked = rw (found-none c 0 refl) (since-start closer (after (W rootStripe (treeAt c allLevels (rootOf c))) (seen Nothing 0)) ∙ after-end (W rootStripe (treeAt c allLevels (rootOf c))));

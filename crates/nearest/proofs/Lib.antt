@@ -1,6 +1,7 @@
 -- The laws that the proofs of the x walks cite.
 pub mod Closer
 pub mod Turns
+pub mod Cuts
 pub mod Places
 pub mod Sides
 pub mod Rows

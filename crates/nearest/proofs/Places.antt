@@ -1,5 +1,5 @@
 -- The place where a walk is and the places that wait: what it relies on there, and at the sons that it asks.
-use Prim.Native.Nat.{ℕ, _≤_}
+use Prim.Native.Nat.{ℕ, suc, _≤_}
 use mathlib.Core.Path.{_≡_, refl, sym}
 use mathlib.Core.Bool.{Bool, true, false, cond}
 use mathlib.Core.List.{List}
@@ -9,10 +9,12 @@ use Rattle.rule.specs.declared.Pair.{Pair}
 use Rattle.rule.specs.declared.Walked.{Walked}
 use Rattle.rule.specs.Cells.{treeAt}
 use Rattle.rule.specs.Sound.{Leads, lowLevels, allLevels, nowhere}
-use Rattle.rule.specs.Stripe.{Stripe, Low}
+use Rattle.rule.specs.Stripe.{Stripe}
 use Rattle.rule.specs.Tree.{Tree, none, size, Within}
 use Rattle.rule.proofs.Leads.{tree-none, tree-deeper}
 use Rattle.rule.specs.Walks.{seen, ask}
+use Rattle.nearest.specs.declared.cut.Cut.{Cut}
+use Rattle.nearest.specs.Cuts.{CutAt}
 use Rattle.nearest.specs.Waiting.{place, Stands}
 
 module _ (c : List ℕ) where
@@ -21,14 +23,21 @@ module _ (c : List ℕ) where
   asked-leads true s o = rw (tree-deeper c lowLevels s o) o
   asked-leads false s o = rw (tree-none c allLevels 0 refl) nowhere
 
-  asked-within : (go : Bool) (s j : ℕ) → Leads c s (treeAt c lowLevels s) → Within j (treeAt c lowLevels s) → Within j (treeAt c allLevels (cond go s 0))
+  -- law: it has no more levels than it has
+  pub asked-within : (go : Bool) (s j : ℕ) → Leads c s (treeAt c lowLevels s) → Within j (treeAt c lowLevels s) → Within j (treeAt c allLevels (cond go s 0))
   asked-within true s j o w = rw (tree-deeper c lowLevels s o) w
   asked-within false s j o w = rw (tree-none c allLevels 0 refl) tt
 
   -- law: a son that is asked stands a level lower
-  pub asked-stands : (go : Bool) (s j : ℕ) (at : Stripe) → Leads c s (treeAt c lowLevels s) → Low at → Within j (treeAt c lowLevels s)
-      → Stands c j (place (cond go s 0) at)
-  asked-stands go s j at o l w = record { leads = asked-leads go s o; low = l; levels = asked-within go s j o w }
+  pub asked-stands : (go : Bool) (s j e : ℕ) (at : Cut) → Leads c s (treeAt c lowLevels s) → Within j (treeAt c lowLevels s)
+      → CutAt e at → Within (suc e) (treeAt c lowLevels s) → Stands c j (place (cond go s 0) at)
+  asked-stands go s j e at o w h r = record {
+    leads = asked-leads go s o;
+    levels = asked-within go s j o w;
+    height = e;
+    cut = h;
+    room = asked-within go s (suc e) o r;
+  }
 
   -- law: and has no more slots than it has
   pub asked-size : (go : Bool) (s : ℕ) → Leads c s (treeAt c lowLevels s) → size (treeAt c allLevels (cond go s 0)) ≤ size (treeAt c lowLevels s)

@@ -1,5 +1,5 @@
 -- A slot's sons as each x walk asks them: smallest x the left one first, largest x the right one.
-use Prim.Native.Nat.{ℕ, suc, _+_, _≤_}
+use Prim.Native.Nat.{ℕ, suc, _+_, _-_, _≤_}
 use mathlib.Core.Path.{_≡_, refl, _∙_}
 use mathlib.Core.Bool.{Bool, true, false}
 use mathlib.Core.List.{List}
@@ -17,10 +17,12 @@ use Rattle.rule.specs.Tree.{Tree, none, fork, size, Within}
 use Rattle.rule.specs.Walks.{seen, ask, byX, smallestX, largestX}
 use Rattle.rule.proofs.Best.{Ranks, by-smaller, by-larger}
 use Rattle.rule.proofs.Leads.{within-more, tree-fork, leads-son}
-use Rattle.rule.proofs.Stripes.{low-left, low-right}
+use Rattle.nearest.specs.declared.cut.Cut.{Cut}
 use Rattle.nearest.specs.Asking.{leftAsked, rightAsked}
+use Rattle.nearest.specs.Cuts.{stripeBy, leftCut, rightCut}
 use Rattle.nearest.specs.Waiting.{Place, place, treeOf, Stands}
-use Rattle.nearest.proofs.Places.{asked-walk, asked-stands, asked-size}
+use Rattle.nearest.proofs.Cuts.{left-at, right-at, left-same, right-same}
+use Rattle.nearest.proofs.Places.{asked-walk, asked-within, asked-stands, asked-size}
 
 -- what both x walks have: nothing on an empty tree, and a closer x that ranks
 pub record ByX (W : Stripe → Tree Pair → Walked) (closer : Pair → Pair → Bool) : Type 0 where
@@ -29,7 +31,7 @@ pub record ByX (W : Stripe → Tree Pair → Walked) (closer : Pair → Pair →
 
 -- two places are a slot's sons as a walk asks them: the rule gives its answer by theirs, and each has a level less
 pub record Sons (W : Stripe → Tree Pair → Walked) (closer : Pair → Pair → Bool) (q : Limits) (c : List ℕ) (k : ℕ) (here near far : Place) : Type 0 where
-  pub gives : W (here .at) (treeOf c here) ≡ byX closer q (pairAt c (here .slot)) (W (near .at) (treeOf c near)) (W (far .at) (treeOf c far))
+  pub gives : W (stripeBy (here .at)) (treeOf c here) ≡ byX closer q (pairAt c (here .slot)) (W (stripeBy (near .at)) (treeOf c near)) (W (stripeBy (far .at)) (treeOf c far))
   pub slots : size (treeOf c near) + size (treeOf c far) + 1 ≤ size (treeOf c here)
   pub near-stands : (j : ℕ) → k ≤ suc j → Stands c j near
   pub far-stands : (j : ℕ) → k ≤ suc j → Stands c j far
@@ -42,7 +44,7 @@ pub largest : (q : Limits) → ByX (largestX q) larger
 unfolding largestX
 largest q = record { empty = λ at. refl; ranks = by-larger }
 
-module _ (c : List ℕ) (k s : ℕ) (at : Stripe) (q : Limits) (o : Stands c k (place s at)) (ne : s ≡ 0 → ⊥) where
+module _ (c : List ℕ) (k s : ℕ) (at : Cut) (q : Limits) (o : Stands c k (place s at)) (ne : s ≡ 0 → ⊥) where
   left-leads : Leads c (leftAt c s) (treeAt c lowLevels (leftAt c s))
   unfolding sonAt
   left-leads = leads-son c lowLevels s true (o .leads) ne
@@ -57,44 +59,57 @@ module _ (c : List ℕ) (k s : ℕ) (at : Stripe) (q : Limits) (o : Stands c k (
   below : (j : ℕ) → k ≤ suc j → Within j (treeAt c lowLevels (leftAt c s)) × Within j (treeAt c lowLevels (rightAt c s))
   below j h = within-more k (suc j) (fork s (pairAt c s) (treeAt c lowLevels (leftAt c s)) (treeAt c lowLevels (rightAt c s))) h (rw here-is at (o .levels))
 
-  left-stands : (j : ℕ) → k ≤ suc j → Stands c j (place (leftAsked c s at (q .x0)) (leftPart at))
+  -- a level less than the stripe has room for
+  lower : Within (o .height) (treeAt c lowLevels (leftAt c s)) × Within (o .height) (treeAt c lowLevels (rightAt c s))
+  lower = rw here-is at (o .room)
+
+  room : (t : Tree Pair) → Within (o .height) t → Within (suc (o .height - 1)) t
+  room t w = within-more (o .height) (suc (o .height - 1)) t (omega arith) w
+
+  left-stands : (j : ℕ) → k ≤ suc j → Stands c j (place (leftAsked c s (stripeBy at) (q .x0)) (leftCut at))
   unfolding leftAsked
-  left-stands j h = asked-stands c (ltb (q .x0) (middle at)) (leftAt c s) j (leftPart at) left-leads (low-left (o .low) refl) (below j h .0)
+  left-stands j h =
+      asked-stands c (ltb (q .x0) (middle (stripeBy at))) (leftAt c s) j (o .height - 1) (leftCut at) left-leads (below j h .0) (left-at (o .height) at (o .cut)) (room (treeAt c lowLevels (leftAt c s)) (lower .0))
 
-  right-stands : (j : ℕ) → k ≤ suc j → Stands c j (place (rightAsked c s at (q .x1)) (rightPart at))
+  right-stands : (j : ℕ) → k ≤ suc j → Stands c j (place (rightAsked c s (stripeBy at) (q .x1)) (rightCut at))
   unfolding rightAsked
-  right-stands j h = asked-stands c (leb (middle at) (q .x1)) (rightAt c s) j (rightPart at) right-leads (low-right (o .low) refl) (below j h .1)
+  right-stands j h =
+      asked-stands c (leb (middle (stripeBy at)) (q .x1)) (rightAt c s) j (o .height - 1) (rightCut at) right-leads (below j h .1) (right-at (o .height) at (o .cut)) (room (treeAt c lowLevels (rightAt c s)) (lower .1))
 
-  sizes : size (treeAt c allLevels (leftAsked c s at (q .x0))) + size (treeAt c allLevels (rightAsked c s at (q .x1))) + 1 ≤ size (treeAt c allLevels s)
+  sizes : size (treeAt c allLevels (leftAsked c s (stripeBy at) (q .x0))) + size (treeAt c allLevels (rightAsked c s (stripeBy at) (q .x1))) + 1 ≤ size (treeAt c allLevels s)
   unfolding leftAsked rightAsked
   sizes =
-      let a = asked-size c (ltb (q .x0) (middle at)) (leftAt c s) left-leads in
-      let b = asked-size c (leb (middle at) (q .x1)) (rightAt c s) right-leads in
+      let a = asked-size c (ltb (q .x0) (middle (stripeBy at))) (leftAt c s) left-leads in
+      let b = asked-size c (leb (middle (stripeBy at)) (q .x1)) (rightAt c s) right-leads in
       rw here-is (omega arith)
 
   -- what the left son gives, and the right one, to either walk
   module _ (W : Stripe → Tree Pair → Walked) (empty : (at : Stripe) → W at none ≡ seen Nothing 0) where
-    left-walk : ask (ltb (q .x0) (middle at)) (W (leftPart at) (treeAt c lowLevels (leftAt c s))) ≡ W (leftPart at) (treeAt c allLevels (leftAsked c s at (q .x0)))
+    left-walk : ask (ltb (q .x0) (middle (stripeBy at))) (W (leftPart (stripeBy at)) (treeAt c lowLevels (leftAt c s))) ≡ W (stripeBy (leftCut at)) (treeAt c allLevels (leftAsked c s (stripeBy at) (q .x0)))
     unfolding leftAsked
-    left-walk = asked-walk c W empty (ltb (q .x0) (middle at)) (leftAt c s) (leftPart at) left-leads
+    left-walk =
+        asked-walk c W empty (ltb (q .x0) (middle (stripeBy at))) (leftAt c s) (leftPart (stripeBy at)) left-leads
+        ∙ left-same W empty (o .height) at (o .cut) _ (asked-within c (ltb (q .x0) (middle (stripeBy at))) (leftAt c s) (o .height) left-leads (lower .0))
 
-    right-walk : ask (leb (middle at) (q .x1)) (W (rightPart at) (treeAt c lowLevels (rightAt c s))) ≡ W (rightPart at) (treeAt c allLevels (rightAsked c s at (q .x1)))
+    right-walk : ask (leb (middle (stripeBy at)) (q .x1)) (W (rightPart (stripeBy at)) (treeAt c lowLevels (rightAt c s))) ≡ W (stripeBy (rightCut at)) (treeAt c allLevels (rightAsked c s (stripeBy at) (q .x1)))
     unfolding rightAsked
-    right-walk = asked-walk c W empty (leb (middle at) (q .x1)) (rightAt c s) (rightPart at) right-leads
+    right-walk =
+        asked-walk c W empty (leb (middle (stripeBy at)) (q .x1)) (rightAt c s) (rightPart (stripeBy at)) right-leads
+        ∙ right-same W empty (o .height) at (o .cut) _ (asked-within c (leb (middle (stripeBy at)) (q .x1)) (rightAt c s) (o .height) right-leads (lower .1))
 
-  smallest-fork : smallestX q at (treeAt c allLevels s)
-      ≡ byX smaller q (pairAt c s) (ask (ltb (q .x0) (middle at)) (smallestX q (leftPart at) (treeAt c lowLevels (leftAt c s))))
-      (ask (leb (middle at) (q .x1)) (smallestX q (rightPart at) (treeAt c lowLevels (rightAt c s))))
+  smallest-fork : smallestX q (stripeBy at) (treeAt c allLevels s)
+      ≡ byX smaller q (pairAt c s) (ask (ltb (q .x0) (middle (stripeBy at))) (smallestX q (leftPart (stripeBy at)) (treeAt c lowLevels (leftAt c s))))
+      (ask (leb (middle (stripeBy at)) (q .x1)) (smallestX q (rightPart (stripeBy at)) (treeAt c lowLevels (rightAt c s))))
   unfolding smallestX
   smallest-fork = rw here-is
 
-  largest-fork : largestX q at (treeAt c allLevels s)
-      ≡ byX larger q (pairAt c s) (ask (leb (middle at) (q .x1)) (largestX q (rightPart at) (treeAt c lowLevels (rightAt c s))))
-      (ask (ltb (q .x0) (middle at)) (largestX q (leftPart at) (treeAt c lowLevels (leftAt c s))))
+  largest-fork : largestX q (stripeBy at) (treeAt c allLevels s)
+      ≡ byX larger q (pairAt c s) (ask (leb (middle (stripeBy at)) (q .x1)) (largestX q (rightPart (stripeBy at)) (treeAt c lowLevels (rightAt c s))))
+      (ask (ltb (q .x0) (middle (stripeBy at))) (largestX q (leftPart (stripeBy at)) (treeAt c lowLevels (leftAt c s))))
   unfolding largestX
   largest-fork = rw here-is
 
-  module _ (l r : ℕ) (lp rp : Stripe) (el : l ≡ leftAsked c s at (q .x0)) (er : r ≡ rightAsked c s at (q .x1)) (elp : lp ≡ leftPart at) (erp : rp ≡ rightPart at) where
+  module _ (l r : ℕ) (lp rp : Cut) (el : l ≡ leftAsked c s (stripeBy at) (q .x0)) (er : r ≡ rightAsked c s (stripeBy at) (q .x1)) (elp : lp ≡ leftCut at) (erp : rp ≡ rightCut at) where
     -- law: smallest x asks left, then right
     pub smallest-sons : Sons (smallestX q) smaller q c k (place s at) (place l lp) (place r rp)
     smallest-sons = rw (el, er, elp, erp) (record {

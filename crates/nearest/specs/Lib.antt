@@ -1,3 +1,4 @@
 pub mod Nearer
+pub mod Cuts
 pub mod Asking
 pub mod Waiting

@@ -11,25 +11,27 @@ use Rattle.rule.specs.declared.Walked.{Walked}
 use Rattle.rule.specs.Cells.{treeAt}
 use Rattle.rule.specs.Plain.{closest}
 use Rattle.rule.specs.Sound.{Leads, lowLevels, allLevels}
-use Rattle.rule.specs.Stripe.{Stripe, Low}
+use Rattle.rule.specs.Stripe.{Stripe}
 use Rattle.rule.specs.Tree.{Tree, Within, size}
 use Rattle.rule.specs.Walks.{seen, orElse}
 use Rattle.questions.specs.Walking.{foundAt, Some}
+use Rattle.nearest.specs.declared.cut.Cut.{Cut}
+use Rattle.nearest.specs.Cuts.{stripeBy, CutAt}
 
 -- a slot's number, or 0, and the stripe there
 pub record Place : Type 0 where
   pub slot : ℕ
-  pub at : Stripe
+  pub at : Cut
 
 -- the place with this slot and this stripe
-abbrev pub place : ℕ → Stripe → Place
+abbrev pub place : ℕ → Cut → Place
 place s at = record { slot = s; at = at }
 
--- so many places, the last one first, out of the rows that hold their slots and the ends of their stripes
-unfoldable pub waiting : (slots lowers uppers : List ℕ) → ℕ → List Place
-waiting slots lowers uppers zero = []
-waiting slots lowers uppers (suc n) =
-    place (getD slots n 0) (record { lower = getD lowers n 0; upper = getD uppers n 0 }) ∷ waiting slots lowers uppers n
+-- so many places, the last one first, out of the rows that hold their slots, and the lower ends and halves of their stripes
+unfoldable pub waiting : (slots lowers halves : List ℕ) → ℕ → List Place
+waiting slots lowers halves zero = []
+waiting slots lowers halves (suc n) =
+    place (getD slots n 0) (record { lower = getD lowers n 0; half = getD halves n 0 }) ∷ waiting slots lowers halves n
 
 -- the tree at a place
 abbrev pub treeOf : List ℕ → Place → Tree Pair
@@ -42,7 +44,7 @@ after a b = let o = orElse (a .finding) b in seen (o .finding) (a .visits + o .v
 -- the places walked in turn, until one gives something
 unfoldable pub inTurn : (Stripe → Tree Pair → Walked) → List ℕ → List Place → Walked
 inTurn W c [] = seen Nothing 0
-inTurn W c (p ∷ ps) = after (W (p .at) (treeOf c p)) (inTurn W c ps)
+inTurn W c (p ∷ ps) = after (W (stripeBy (p .at)) (treeOf c p)) (inTurn W c ps)
 
 -- a walk made after so many visits: what it finds, unless what was found so far is closer
 abbrev pub since : (Pair → Pair → Bool) → Finding → ℕ → Walked → Walked
@@ -53,11 +55,13 @@ unfoldable pub slotsAt : List ℕ → List Place → ℕ
 slotsAt c [] = 0
 slotsAt c (p ∷ ps) = size (treeOf c p) + slotsAt c ps
 
--- a place whose link leads to the tree there, which has so many levels at most
+-- a place whose link leads to the tree there, which has so many levels at most, and no more than its stripe has room for
 pub record Stands (c : List ℕ) (k : ℕ) (p : Place) : Type 0 where
   pub leads : Leads c (p .slot) (treeOf c p)
-  pub low : Low (p .at)
   pub levels : Within k (treeOf c p)
+  pub height : ℕ
+  pub cut : CutAt height (p .at)
+  pub room : Within (suc height) (treeOf c p)
 
 -- each place has fewer levels by as many as there are places behind it
 unfoldable pub Stand : List ℕ → List Place → Type 0
@@ -72,8 +76,8 @@ pub record Going (W : Stripe → Tree Pair → Walked) (closer : Pair → Pair �
   pub asked : since closer (foundAt c best) v (inTurn W c ps) ≡ answer
 
 -- the same, with the places that wait in the code's rows, which have room for one a level
-pub record Held (W : Stripe → Tree Pair → Walked) (closer : Pair → Pair → Bool) (c : List ℕ) (answer : Walked) (slots lowers uppers : List ℕ) (wait slot : ℕ)
-    (at : Stripe) (best v : ℕ) : Type 0 where
-  pub room : (length slots ≡ lowLevels) × (length lowers ≡ lowLevels) × (length uppers ≡ lowLevels)
+pub record Held (W : Stripe → Tree Pair → Walked) (closer : Pair → Pair → Bool) (c : List ℕ) (answer : Walked) (slots lowers halves : List ℕ) (wait slot : ℕ)
+    (at : Cut) (best v : ℕ) : Type 0 where
+  pub room : (length slots ≡ lowLevels) × (length lowers ≡ lowLevels) × (length halves ≡ lowLevels)
   pub most : wait ≤ lowLevels
-  pub going : Going W closer c answer (place slot at ∷ waiting slots lowers uppers wait) best v
+  pub going : Going W closer c answer (place slot at ∷ waiting slots lowers halves wait) best v

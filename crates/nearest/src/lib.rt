@@ -1,21 +1,23 @@
 // Smallest and largest x over a sound pool, each the other's mirror: a loop, with the second sons that wait in rows. A place waits
 // for a slot above whose first son has given nothing so far; slot 0 is an empty place, where the one that came last is next.
+use cut::Cut;
 use questions::found_at;
 use questions::in_range;
-use rule::Stripe;
 use rule::Walked;
 ghost use mathlib.Core.Path.{_≡_};
 ghost use mathlib.Core.Bool.{cond};
 ghost use Prim.Native.Nat.{_≤_};
 ghost use Rattle.rule.specs.Cells.{Fits, rootOf, treeAt};
 ghost use Rattle.rule.specs.Plain.{limits, smaller, larger};
-ghost use Rattle.rule.specs.Shape.{stripeOf};
 ghost use Rattle.rule.specs.Sound.{Sound, allLevels};
-ghost use Rattle.rule.specs.Stripe.{Low, rootStripe};
+ghost use Rattle.rule.specs.Stripe.{rootStripe};
 ghost use Rattle.rule.specs.Walks.{smallestX, largestX};
 ghost use Rattle.questions.specs.Walking.{Some};
 ghost use Rattle.nearest.specs.Nearer.{Nearer};
 ghost use Rattle.nearest.specs.Asking.{leftAsked, rightAsked};
+ghost use Rattle.nearest.specs.Cuts.{MiddleFits, stripeBy};
+
+mod cut;
 
 // Room for the places that wait: at most one for each level below the root.
 const ROOM: usize = 32;
@@ -69,9 +71,9 @@ fn still(hit: bool, wait: usize) -> usize
 }
 
 // The left son, if it is asked.
-fn left_asked(pool: &[u32], slot: u32, at: Stripe, x0: u32) -> u32
-    requires { ⌜ Fits (now pool) slot × Low (stripeOf at) ⌝ }
-    ensures { λ r. ⌜ r ≡ leftAsked (now (pool .entry)) slot (stripeOf at) x0 ⌝ }
+fn left_asked(pool: &[u32], slot: u32, at: Cut, x0: u32) -> u32
+    requires { ⌜ Fits (now pool) slot × MiddleFits at ⌝ }
+    ensures { λ r. ⌜ r ≡ leftAsked (now (pool .entry)) slot (stripeBy at) x0 ⌝ }
 {
     if at.goes_left(x0) {
         return cells::left(pool, slot);
@@ -80,9 +82,9 @@ fn left_asked(pool: &[u32], slot: u32, at: Stripe, x0: u32) -> u32
 }
 
 // The right son, if it is asked.
-fn right_asked(pool: &[u32], slot: u32, at: Stripe, x1: u32) -> u32
-    requires { ⌜ Fits (now pool) slot × Low (stripeOf at) ⌝ }
-    ensures { λ r. ⌜ r ≡ rightAsked (now (pool .entry)) slot (stripeOf at) x1 ⌝ }
+fn right_asked(pool: &[u32], slot: u32, at: Cut, x1: u32) -> u32
+    requires { ⌜ Fits (now pool) slot × MiddleFits at ⌝ }
+    ensures { λ r. ⌜ r ≡ rightAsked (now (pool .entry)) slot (stripeBy at) x1 ⌝ }
 {
     if at.goes_left(x1) {
         return 0;
@@ -96,11 +98,11 @@ pub fn smallest_x(pool: &[u32], x0: u32, x1: u32, y1: u32) -> Walked
     ensures { λ r. ⌜ r ≡ smallestX (limits x0 x1 y1) rootStripe (treeAt (now (pool .entry)) allLevels (rootOf (now (pool .entry)))) ⌝ }
 {
     let mut slots = [0u32; ROOM];
-    let mut lowers = [0u64; ROOM];
-    let mut uppers = [0u64; ROOM];
+    let mut lowers = [0u32; ROOM];
+    let mut halves = [0u32; ROOM];
     let mut wait: usize = 0;
     let mut slot = cells::root(pool);
-    let mut at = Stripe::root();
+    let mut at = Cut::root();
     let mut best: u32 = 0;
     let mut visits: u32 = 0;
     loop {
@@ -113,9 +115,9 @@ pub fn smallest_x(pool: &[u32], x0: u32, x1: u32, y1: u32) -> Walked
             }
             wait -= 1;
             slot = slots[wait];
-            at = Stripe {
+            at = Cut {
                 lower: lowers[wait],
-                upper: uppers[wait],
+                half: halves[wait],
             };
             continue;
         }
@@ -140,7 +142,7 @@ pub fn smallest_x(pool: &[u32], x0: u32, x1: u32, y1: u32) -> Walked
             let far = at.right();
             slots[wait] = right;
             lowers[wait] = far.lower;
-            uppers[wait] = far.upper;
+            halves[wait] = far.half;
             wait += 1;
         }
         slot = left;
@@ -154,11 +156,11 @@ pub fn largest_x(pool: &[u32], x0: u32, x1: u32, y1: u32) -> Walked
     ensures { λ r. ⌜ r ≡ largestX (limits x0 x1 y1) rootStripe (treeAt (now (pool .entry)) allLevels (rootOf (now (pool .entry)))) ⌝ }
 {
     let mut slots = [0u32; ROOM];
-    let mut lowers = [0u64; ROOM];
-    let mut uppers = [0u64; ROOM];
+    let mut lowers = [0u32; ROOM];
+    let mut halves = [0u32; ROOM];
     let mut wait: usize = 0;
     let mut slot = cells::root(pool);
-    let mut at = Stripe::root();
+    let mut at = Cut::root();
     let mut best: u32 = 0;
     let mut visits: u32 = 0;
     loop {
@@ -171,9 +173,9 @@ pub fn largest_x(pool: &[u32], x0: u32, x1: u32, y1: u32) -> Walked
             }
             wait -= 1;
             slot = slots[wait];
-            at = Stripe {
+            at = Cut {
                 lower: lowers[wait],
-                upper: uppers[wait],
+                half: halves[wait],
             };
             continue;
         }
@@ -198,7 +200,7 @@ pub fn largest_x(pool: &[u32], x0: u32, x1: u32, y1: u32) -> Walked
             let far = at.left();
             slots[wait] = left;
             lowers[wait] = far.lower;
-            uppers[wait] = far.upper;
+            halves[wait] = far.half;
             wait += 1;
         }
         slot = right;

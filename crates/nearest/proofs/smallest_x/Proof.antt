@@ -5,24 +5,23 @@ use native.Mathlib.Omega.{arith}
 use borrow.Author.Needs.{needs}
 use Rattle.rule.specs.Cells.{rootOf, treeAt}
 use Rattle.rule.specs.Plain.{limits, smaller}
-use Rattle.rule.specs.Shape.{stripeOf}
 use Rattle.rule.specs.Sound.{lowLevels, allLevels}
 use Rattle.rule.specs.Stripe.{rootStripe}
 use Rattle.rule.specs.Walks.{smallestX}
 use Rattle.questions.proofs.Top.{header}
 use Rattle.nearest.specs.Waiting.{Held}
-use Rattle.nearest.proofs.Held.{toWalk, standing, stop, pop, pop-less, fits, one-more, too-high, high-less, to-far, to-near, room-left, push, far-less, near-less, push-less, start}
+use Rattle.nearest.proofs.Held.{toWalk, standing, middle-fits, stop, pop, pop-less, fits, one-more, too-high, high-less, to-far, to-near, room-left, push, far-less, near-less, push-less, start}
 use Rattle.nearest.proofs.Sides.{smallest, smallest-sons}
 use Rattle.nearest.proofs.smallest_x.Statement.{statement}
 use Rattle.nearest.proofs.smallest_x.Tie as tie
 
 abbrev Inv-loop : tie.InvT-loop
-Inv-loop pool x0 x1 y1 slots₀ lowers₀ uppers₀ wait₀ slot₀ at₀ best₀ visits₀ slots lowers uppers wait slot at best visits =
-    Held (smallestX (limits x0 x1 y1)) smaller pool (smallestX (limits x0 x1 y1) rootStripe (treeAt pool allLevels (rootOf pool))) slots lowers uppers wait slot (stripeOf at) best visits
+Inv-loop pool x0 x1 y1 slots₀ lowers₀ halves₀ wait₀ slot₀ at₀ best₀ visits₀ slots lowers halves wait slot at best visits =
+    Held (smallestX (limits x0 x1 y1)) smaller pool (smallestX (limits x0 x1 y1) rootStripe (treeAt pool allLevels (rootOf pool))) slots lowers halves wait slot at best visits
 
 abbrev μ-loop : tie.MeasureT-loop
-μ-loop pool x0 x1 y1 slots₀ lowers₀ uppers₀ wait₀ slot₀ at₀ best₀ visits₀ slots lowers uppers wait slot at best visits =
-    toWalk pool slots lowers uppers wait slot (stripeOf at)
+μ-loop pool x0 x1 y1 slots₀ lowers₀ halves₀ wait₀ slot₀ at₀ best₀ visits₀ slots lowers halves wait slot at best visits =
+    toWalk pool slots lowers halves wait slot at
 
 root-requires : tie.Need-root-requires Inv-loop μ-loop
 root-requires c κs = header _ (c .before .pre)
@@ -47,14 +46,14 @@ array-read-slot c = omega (arith, c .if2 .left, c .before .before .loop .inv .mo
 mul-t23 : tie.Need-mul-t23 Inv-loop μ-loop
 mul-t23 c = omega (arith, c .if2 .left, c .before .before .loop .inv .most)
 
-array-read-t29 : tie.Need-array-read-t29 Inv-loop μ-loop
-array-read-t29 c = omega (arith, c .if2 .left, c .before .before .loop .inv .most)
+array-read-t26 : tie.Need-array-read-t26 Inv-loop μ-loop
+array-read-t26 c = omega (arith, c .if2 .left, c .before .before .loop .inv .most)
 
-mul-t30 : tie.Need-mul-t30 Inv-loop μ-loop
-mul-t30 c = omega (arith, c .if2 .left, c .before .before .loop .inv .most)
+mul-t29 : tie.Need-mul-t29 Inv-loop μ-loop
+mul-t29 c = omega (arith, c .if2 .left, c .before .before .loop .inv .most)
 
-array-read-t33 : tie.Need-array-read-t33 Inv-loop μ-loop
-array-read-t33 c = omega (arith, c .if2 .left, c .before .before .loop .inv .most)
+array-read-t32 : tie.Need-array-read-t32 Inv-loop μ-loop
+array-read-t32 c = omega (arith, c .if2 .left, c .before .before .loop .inv .most)
 
 loop-less : tie.Need-loop-less Inv-loop μ-loop
 loop-less c =
@@ -90,15 +89,15 @@ smaller-of-requires c κs = (omega (arith, c .before .before .before .before .if
 left-asked-requires : tie.Need-left-asked-requires Inv-loop μ-loop
 left-asked-requires c κs =
     let p6 = c .before .before .before .before .before .before in let p7 = p6 .before in
-    (fits (p7 .loop .inv) (p6 .if1 .left), standing (p7 .loop .inv) .low)
+    (fits (p7 .loop .inv) (p6 .if1 .left), middle-fits (p7 .loop .inv))
 
 right-asked-requires : tie.Need-right-asked-requires Inv-loop μ-loop
 right-asked-requires c κs =
     let p7 = c .before .before .before .before .before .before .before in let p8 = p7 .before in
-    (fits (p8 .loop .inv) (p7 .if1 .left), standing (p8 .loop .inv) .low)
+    (fits (p8 .loop .inv) (p7 .if1 .left), middle-fits (p8 .loop .inv))
 
 right-requires : tie.Need-right-requires Inv-loop μ-loop
-right-requires c κs = standing (c .before .before .before .before .before .before .before .before .before .before .loop .inv) .low
+right-requires c κs = middle-fits (c .before .before .before .before .before .before .before .before .before .before .loop .inv)
 
 loop-less-3 : tie.Need-loop-less-3 Inv-loop μ-loop
 loop-less-3 c =
@@ -110,11 +109,8 @@ loop-again-3 c =
     let p1 = c .before in let p2 = p1 .before in let p3 = p2 .before in let p4 = p3 .before in let p5 = p4 .before in let p6 = p5 .before in let p7 = p6 .before in let p9 = p7 .before .before in let p10 = p9 .before in let p11 = p10 .before in
     to-far (p11 .loop .inv) (smallest _) (p10 .if1 .left) (smallest-sons _ _ _ _ _ (standing (p11 .loop .inv)) (p10 .if1 .left) _ _ _ _ (p3 .left-asked .ensures) (p2 .right-asked .ensures) refl (c .right .ensures)) (p9 .pair .ensures) (p7 .if3 .left) (p6 .in-range .ensures) (p5 .smaller-of .ensures) (p4 .still .ensures) (p1 .if4 .taken)
 
-left-requires : tie.Need-left-requires Inv-loop μ-loop
-left-requires c κs = standing (c .before .before .before .before .before .before .before .before .before .before .loop .inv) .low
-
 right-requires-2 : tie.Need-right-requires-2 Inv-loop μ-loop
-right-requires-2 c κs = standing (c .before .before .before .before .before .before .before .before .before .before .before .before .loop .inv) .low
+right-requires-2 c κs = middle-fits (c .before .before .before .before .before .before .before .before .before .before .before .before .loop .inv)
 
 -- there is room for the place that is put into the rows
 room : (c : tie.After-right2 Inv-loop μ-loop) → c .before .before .before .before .before .before .still .result < lowLevels
@@ -134,11 +130,11 @@ mul-lowers c = omega (arith, room c)
 array-write-lowers : tie.Need-array-write-lowers Inv-loop μ-loop
 array-write-lowers c = omega (arith, room c)
 
-mul-uppers : tie.Need-mul-uppers Inv-loop μ-loop
-mul-uppers c = omega (arith, room c)
+mul-halves : tie.Need-mul-halves Inv-loop μ-loop
+mul-halves c = omega (arith, room c)
 
-array-write-uppers : tie.Need-array-write-uppers Inv-loop μ-loop
-array-write-uppers c = omega (arith, room c)
+array-write-halves : tie.Need-array-write-halves Inv-loop μ-loop
+array-write-halves c = omega (arith, room c)
 
 add-wait : tie.Need-add-wait Inv-loop μ-loop
 add-wait c = omega (arith, room c)
@@ -182,9 +178,9 @@ smallest-x-spec =
     mul-slot
     array-read-slot
     mul-t23
-    array-read-t29
-    mul-t30
-    array-read-t33
+    array-read-t26
+    mul-t29
+    array-read-t32
     loop-less
     loop-again
     add-visits
@@ -199,14 +195,14 @@ smallest-x-spec =
     right-requires
     loop-less-3
     loop-again-3
-    left-requires
+    (λ c κs. search needs)
     right-requires-2
     mul-slots
     array-write-slots
     mul-lowers
     array-write-lowers
-    mul-uppers
-    array-write-uppers
+    mul-halves
+    array-write-halves
     add-wait
     loop-less-4
     loop-again-4

@@ -1,0 +1,40 @@
+-- How the x walks hold a stripe: by its lower end and half of its width.
+use Prim.Native.Nat.{ℕ, zero, suc, _+_, _/_, _≤_, _<_}
+use mathlib.Core.Path.{_≡_}
+use Rattle.rule.specs.Stripe.{Stripe}
+use Rattle.nearest.specs.declared.cut.Cut.{Cut}
+
+-- a width by its half: the half of a single x is 0
+abbrev pub wide : ℕ → ℕ
+wide zero = 1
+wide (suc h) = suc h + suc h
+
+-- the stripe that a cut stands for
+abbrev pub stripeBy : Cut → Stripe
+stripeBy s = record { lower = s .lower; upper = s .lower + wide (s .half) }
+
+-- the root's
+abbrev pub rootCut : Cut
+rootCut = record { lower = 0; half = 2147483648 }
+
+-- the left part's
+abbrev pub leftCut : Cut → Cut
+leftCut s = record { lower = s .lower; half = s .half / 2 }
+
+-- the right part's
+abbrev pub rightCut : Cut → Cut
+rightCut s = record { lower = s .lower + s .half; half = s .half / 2 }
+
+-- its middle is a number of 32 bits
+abbrev pub MiddleFits : Cut → Type 0
+MiddleFits s = s .lower + s .half < 4294967296
+
+-- the width of a stripe so many levels above a single x
+unfoldable pub widthAt : ℕ → ℕ
+widthAt zero = 1
+widthAt (suc e) = widthAt e + widthAt e
+
+-- a cut so many levels above a single x, which ends where the root's does or before
+pub record CutAt (e : ℕ) (s : Cut) : Type 0 where
+  pub half : s .half ≡ widthAt e / 2
+  pub low : s .lower + widthAt e ≤ 4294967296
