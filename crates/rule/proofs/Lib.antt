@@ -2,6 +2,7 @@
 pub mod Tests
 pub mod Order
 pub mod Stripes
+pub mod Heights
 pub mod Trees
 pub mod GoDown
 pub mod TakeOut

@@ -1,5 +1,5 @@
 -- The part of the x that a slot of the tree owns.
-use Prim.Native.Nat.{ℕ, _+_, _/_, _≤_, _<_}
+use Prim.Native.Nat.{ℕ, _+_, _*_, _/_, _^_, _≤_, _<_}
 use mathlib.Core.Bool.{Bool, cond, _&&_}
 use lib.Dec.{ltb, leb}
 
@@ -27,6 +27,10 @@ rightPart s = record { lower = middle s; upper = s .upper }
 -- the part on x's side of the middle
 unfoldable pub partOf : Stripe → ℕ → Stripe
 partOf s x = cond (ltb x (middle s)) (leftPart s) (rightPart s)
+
+-- the stripe that x lies in, with so many levels below it
+abbrev pub stripeAt : ℕ → ℕ → Stripe
+stripeAt k x = record { lower = x / 2 ^ k * 2 ^ k; upper = x / 2 ^ k * 2 ^ k + 2 ^ k }
 
 -- x lies in the stripe
 pub record In (s : Stripe) (x : ℕ) : Type 0 where

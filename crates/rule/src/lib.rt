@@ -1,9 +1,10 @@
 // The types that every crate shares. What they mean is in specs/.
 ghost use mathlib.Core.Path.{_≡_};
+ghost use Prim.Native.Nat.{_≤_};
 ghost use lib.Dec.{ltb};
 ghost use Rattle.rule.specs.Answer.{five};
 ghost use Rattle.rule.specs.Pairs.{beats};
-ghost use Rattle.rule.specs.Stripe.{Low, rootStripe, middle, leftPart, rightPart, partOf, holds};
+ghost use Rattle.rule.specs.Stripe.{Low, rootStripe, middle, leftPart, rightPart, partOf, stripeAt, holds};
 ghost use Rattle.rule.specs.Shape.{stripeOf, Keyed};
 
 pub mod codes;
@@ -107,6 +108,27 @@ impl Stripe {
             return self.left();
         }
         self.right()
+    }
+
+    // The stripe that x lies in, with so many levels below it.
+    pub fn around(x: u32, levels: u32) -> Stripe
+        requires { ⌜ levels ≤ 32 ⌝ }
+        ensures { λ r. ⌜ stripeOf r ≡ stripeAt levels x ⌝ }
+    {
+        let width = 1u64 << levels;
+        let lower = x as u64 / width * width;
+        Stripe {
+            lower,
+            upper: lower + width,
+        }
+    }
+
+    // Whether x lies below the middle of that stripe: its bit at that level is 0.
+    pub fn is_left(x: u32, levels: u32) -> bool
+        requires { ⌜ (1 ≤ levels) × (levels ≤ 32) ⌝ }
+        ensures { λ r. ⌜ r ≡ ltb x (middle (stripeAt levels x)) ⌝ }
+    {
+        (x >> (levels - 1)) % 2 == 0
     }
 
     // Whether x lies in the stripe.
