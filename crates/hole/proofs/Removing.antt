@@ -10,17 +10,16 @@ use lib.Dec.{ltb}
 use lib.ListN.{getD}
 use borrow.Author.Tests.{eq-eqb, ltb-true, ltb-false}
 use Rattle.rule.specs.declared.Pair.{Pair}
-use Rattle.rule.specs.Stripe.{Stripe, In, Low, rootStripe, middle, partOf}
+use Rattle.rule.specs.Stripe.{Stripe, In, Low, rootStripe, middle, partOf, stripeAt}
 use Rattle.rule.specs.Tree.{Tree, Mem, here}
 use Rattle.rule.specs.Changes.{fill, takeOut}
 use Rattle.rule.specs.Cells.{Fits, pairAt, sonAt, linkCell, treeAt}
 use Rattle.rule.specs.Sound.{itself, lowLevels, allLevels}
-use Rattle.rule.proofs.Tests.{on}
 use Rattle.rule.proofs.Order.{pair-ext}
-use Rattle.rule.proofs.Levels.{levels}
+use Rattle.rule.proofs.Heights.{root-at, part-of}
 use Rattle.rule.proofs.Trees.{all-at, well-in}
 use Rattle.rule.proofs.Stripes.{low-part}
-use Rattle.rule.proofs.Leads.{back, tree-none, tree-fork, leads-tree, leads-fits}
+use Rattle.rule.proofs.Leads.{back, tree-none, tree-fork, leads-fits}
 use Rattle.changes.proofs.Sides.{Seen}
 use Rattle.hole.specs.declared.Removal.{Removal}
 use Rattle.hole.specs.declared.Removal.the-variants.{Done, Missing, Other}
@@ -32,10 +31,6 @@ use Rattle.hole.proofs.Holes.{paired-same, seen, son-place, freed-on}
 narrower : (left : Bool) (at : Stripe) (k : ℕ) → at .upper ≤ at .lower + 2 ^ suc k → partOn left at .upper ≤ partOn left at .lower + 2 ^ k
 narrower true at k h = let e = two-pow-succ k in omega arith
 narrower false at k h = let e = two-pow-succ k in omega arith
-
-smaller-part : (at : Stripe) (x : ℕ) → at .lower + 2 ≤ at .upper → partOf at x .upper - partOf at x .lower < at .upper - at .lower
-unfolding partOf
-smaller-part at x h = on (ltb x (middle at)) (λ t. rw t (omega arith)) (λ f. rw f (omega arith))
 
 inner : (left : Bool) (at : Stripe) (x : ℕ) → ltb x (middle at) ≡ left → In at x → In (partOn left at) x
 inner true at x e i = let l = ltb-true x (middle at) e in record { from = i .from; to = l }
@@ -137,56 +132,51 @@ module _ {c : List ℕ} {n cell : ℕ} {at : Stripe} {p : Pair} (o : Looking c n
         removed-on h = on-removed small (rw eq at nx) left (sym el) (rw (ea, es, ← el) at h)
 
 -- law: the search starts at the root
-pub start : {c : List ℕ} {at : Stripe} {p : Pair} → Looking c lowLevels 1 rootStripe p → at ≡ rootStripe → Reached c 1 at p
-start o e = rw e (record { levels = lowLevels; looking = o; whole = λ r d h. h })
+pub start : {c : List ℕ} {p : Pair} → Looking c lowLevels 1 rootStripe p → Reached c lowLevels 1 p
+start {p = p} o = record { few = omega arith; at = rootStripe; around = λ b. sym (root-at (p .x) b); looking = o; whole = λ r d h. h }
 
-module _ {c : List ℕ} {cell : ℕ} {at : Stripe} {p : Pair} (R : Reached c cell at p) where
+module _ {c : List ℕ} {k cell : ℕ} {p : Pair} (R : Reached c k cell p) where
   -- law: an empty place
-  pub found-none : getD c cell 0 ≡ 0 → Found c p cell
-  found-none z = record { at = at; reached = R; met = λ ne. absurd (ne z) }
+  pub found-none : getD c cell 0 ≡ 0 → Found c p k cell
+  found-none z = record { reached = R; met = λ ne. absurd (ne z) }
 
   -- law: x is met
-  pub found-met : {q : Pair} → q ≡ pairAt c (getD c cell 0) → q .x ≡ p .x → Found c p cell
-  found-met e ex = record { at = at; reached = R; met = λ ne. rw e at ex }
+  pub found-met : {q : Pair} → q ≡ pairAt c (getD c cell 0) → q .x ≡ p .x → Found c p k cell
+  found-met e ex = record { reached = R; met = λ ne. rw e at ex }
 
-  -- the place's tree, read as deep as any
-  whole-tree : placed c allLevels cell ≡ placed c (suc (R .levels)) cell
-  whole-tree =
-      let o = R .looking in
-      let l = o .low in
-      leads-tree c allLevels (o .place .leads) (levels itself at lowLevels (placed c (suc (R .levels)) cell) (o .well) (omega (arith, l)))
+  module _ (ne : getD c cell 0 ≢ 0) (b : p .x < rootStripe .upper) {q : Pair} (eq : q ≡ pairAt c (getD c cell 0)) (nx : q .x ≢ p .x) where
+    -- law: there is a level below
+    pub a-level : 1 ≤ k
+    a-level = let d = deep (R .looking) ne (record { from = omega arith; to = b }) (rw eq at nx) in omega (arith, d)
 
-  module _ (ne : getD c cell 0 ≢ 0) where
-    pub hole-there : Hole c allLevels cell
-    hole-there = record { place = rw whole-tree (R .looking .place); there = ne }
-
-    module _ (b : p .x < rootStripe .upper) {q : Pair} (eq : q ≡ pairAt c (getD c cell 0)) (nx : q .x ≢ p .x) {at′ : Stripe} (ea : at′ ≡ partOf at (p .x)) where
-      -- law: the part is smaller
-      pub narrows : at′ .upper - at′ .lower < at .upper - at .lower
-      narrows =
-          let o = R .looking in
-          let i = two-in o ne (record { from = omega arith; to = b }) (rw eq at nx) in
-          rw ea (smaller-part at (p .x) i)
-
-      -- law: on to the son on x's side
-      pub reached-on : {left : Bool} (el : left ≡ ltb (p .x) (middle at)) {son : ℕ} (es : son ≡ linkCell (getD c cell 0) left) → Reached c son at′ p
-      reached-on el es = record {
-        levels = R .levels - 1;
-        looking = looking-on (R .looking) ne b eq nx el es ea;
-        whole = λ r d h. R .whole r d (removed-on (R .looking) ne b eq nx el es ea h);
-      }
+    -- law: on to the son on x's side
+    pub reached-on : {left : Bool} (el : left ≡ ltb (p .x) (middle (stripeAt k (p .x)))) {son : ℕ} (es : son ≡ linkCell (getD c cell 0) left) → Reached c (k - 1) son p
+    reached-on el es =
+        let side = el ∙ sym (ap (λ at. ltb (p .x) (middle at)) (R .around b)) in
+        let part = sym (ap (λ at. partOf at (p .x)) (R .around b) ∙ part-of k (p .x) a-level) in
+        record {
+          few = omega (arith, R .few);
+          at = stripeAt (k - 1) (p .x);
+          around = λ b. refl;
+          looking = looking-on (R .looking) ne b eq nx side es part;
+          whole = λ r d h. R .whole r d (removed-on (R .looking) ne b eq nx side es part h);
+        }
 
 -- law: where the place is empty, where another y is met, and where the pair is
-module _ {c : List ℕ} {p : Pair} {cell : ℕ} (F : Found c p cell) where
+module _ {c : List ℕ} {p : Pair} {k cell : ℕ} (F : Found c p k cell) where
   pub ends-missing : getD c cell 0 ≡ 0 → Removed c 1 (placed c allLevels 1) rootStripe p Missing c
   ends-missing z = F .reached .whole Missing c (none-here (F .reached .looking) z)
 
-  module _ (ne : getD c cell 0 ≢ 0) {q : Pair} (eq : q ≡ pairAt c (getD c cell 0)) where
-    same-x : q .x ≡ p .x
-    same-x = ap (λ v. v .x) eq ∙ F .met ne
+  module _ (ne : getD c cell 0 ≢ 0) where
+    pub hole-there : Hole c (suc k) cell
+    hole-there = record { place = F .reached .looking .place; there = ne }
 
-    pub ends-other : q .y ≢ p .y → Removed c 1 (placed c allLevels 1) rootStripe p Other c
-    ends-other ny = F .reached .whole Other c (other-here (F .reached .looking) ne eq same-x ny)
+    module _ {q : Pair} (eq : q ≡ pairAt c (getD c cell 0)) where
+      same-x : q .x ≡ p .x
+      same-x = ap (λ v. v .x) eq ∙ F .met ne
 
-    pub ends-done : {d : List ℕ} → q .y ≡ p .y → Freed c cell (placed c allLevels cell) (fill itself (placed c allLevels cell)) d → Removed c 1 (placed c allLevels 1) rootStripe p Done d
-    ends-done {d} ey f = F .reached .whole Done d (done-here (F .reached .looking) ne eq same-x ey (rw (whole-tree (F .reached)) at f))
+      pub ends-other : q .y ≢ p .y → Removed c 1 (placed c allLevels 1) rootStripe p Other c
+      ends-other ny = F .reached .whole Other c (other-here (F .reached .looking) ne eq same-x ny)
+
+      pub ends-done : {d : List ℕ} → q .y ≡ p .y → Freed c cell (placed c (suc k) cell) (fill itself (placed c (suc k) cell)) d → Removed c 1 (placed c allLevels 1) rootStripe p Done d
+      ends-done {d} ey f = F .reached .whole Done d (done-here (F .reached .looking) ne eq same-x ey f)

@@ -8,12 +8,12 @@ use lib.ListN.{length, getD, set}
 use Rattle.rule.specs.declared.Pair.{Pair}
 use Rattle.rule.specs.Pairs.{beats}
 use Rattle.rule.specs.Plain.{hasX, has}
-use Rattle.rule.specs.Stripe.{Stripe, In, Low, rootStripe}
+use Rattle.rule.specs.Stripe.{Stripe, In, Low, rootStripe, stripeAt}
 use Rattle.rule.specs.Tree.{Tree, Mem, Well}
 use Rattle.rule.specs.Changes.{Cut, takeOut}
 use Rattle.rule.specs.Cells.{perSlot, Fits, freeOf, freeMark, pairAt, leftAt, rightAt, sonAt, linkCell, putPair, putFree, treeAt, stored}
 use Rattle.rule.specs.Laid.{deleted}
-use Rattle.rule.specs.Sound.{Leads, itself, allLevels}
+use Rattle.rule.specs.Sound.{Leads, itself, lowLevels, allLevels}
 use Rattle.rule.proofs.Agreement.{Holds}
 use Rattle.rule.proofs.Standing.{Stands, Distinct}
 use Rattle.changes.specs.Places.{Replaced}
@@ -89,16 +89,18 @@ pub data Removed (c : List ℕ) (cell : ℕ) (t : Tree Pair) (at : Stripe) (p : 
   other : (q : Pair) → Mem q t → q .x ≡ p .x → (q .y ≡ p .y → ⊥) → Removed c cell t at p Other c
   done : {d : List ℕ} → Mem p t → Freed c cell t (takeOut itself (p .x) at t) d → Removed c cell t at p Done d
 
--- on the way to p's x, at a place with the stripe `at`: how a removal ends there it ends for the whole tree
-pub record Reached (c : List ℕ) (cell : ℕ) (at : Stripe) (p : Pair) : Type 0 where
-  pub levels : ℕ
-  pub looking : Looking c levels cell at p
-  pub whole : (r : Removal) (d : List ℕ) → Removed c cell (placed c (suc levels) cell) at p r d → Removed c 1 (placed c allLevels 1) rootStripe p r d
-
--- the place where p's x is met, or an empty one
-pub record Found (c : List ℕ) (p : Pair) (cell : ℕ) : Type 0 where
+-- on the way to p's x, at a place with k levels below it: how a removal ends there it ends for the whole tree
+pub record Reached (c : List ℕ) (k cell : ℕ) (p : Pair) : Type 0 where
+  pub few : k ≤ lowLevels
   pub at : Stripe
-  pub reached : Reached c cell at p
+  -- p's x is a 32-bit number
+  pub around : p .x < 4294967296 → at ≡ stripeAt k (p .x)
+  pub looking : Looking c k cell at p
+  pub whole : (r : Removal) (d : List ℕ) → Removed c cell (placed c (suc k) cell) at p r d → Removed c 1 (placed c allLevels 1) rootStripe p r d
+
+-- the place where p's x is met, or an empty one, with k levels below it
+pub record Found (c : List ℕ) (p : Pair) (k cell : ℕ) : Type 0 where
+  pub reached : Reached c k cell p
   pub met : getD c cell 0 ≢ 0 → pairAt c (getD c cell 0) .x ≡ p .x
 
 -- how a deletion ends, over the stored list

@@ -73,24 +73,30 @@ fn fill(pool: &mut [u32], levels: u32, cell: usize)
     fill(pool, levels - 1, son);
 }
 
-// The cell of the link to the slot where x is met from the root, by halving the stripe, or of the empty link where the search ends.
-fn find(pool: &[u32], p: Pair) -> usize
+// Where a search ends: the cell of the link there, and the levels below it.
+struct Met {
+    cell: usize,
+    levels: u32,
+}
+
+// Where p's x is met from the root, by halving the stripe, or the empty place where the search ends.
+fn find(pool: &[u32], p: Pair) -> Met
     requires { ⌜ Looking (now pool) lowLevels 1 rootStripe p ⌝ }
-    ensures { λ r. ⌜ Found (now (pool .entry)) p r ⌝ }
+    ensures { λ r. ⌜ Found (now (pool .entry)) p (r .levels) (r .cell) ⌝ }
 {
     let mut cell = cells::ROOT_CELL;
-    let mut at = Stripe::root();
+    let mut levels = Stripe::LEVELS;
     loop {
         let slot = pool[cell];
         if slot == 0 {
-            return cell;
+            return Met { cell, levels };
         }
         let q = cells::pair(pool, slot);
         if q.x == p.x {
-            return cell;
+            return Met { cell, levels };
         }
-        cell = cells::link_cell(slot, at.goes_left(p.x));
-        at = at.towards(p.x);
+        cell = cells::link_cell(slot, Stripe::is_left(p.x, levels));
+        levels -= 1;
     }
 }
 
@@ -99,7 +105,8 @@ fn remove(pool: &mut [u32], p: Pair) -> Removal
     requires { ⌜ Looking (now pool) lowLevels 1 rootStripe p ⌝ }
     ensures { λ r. ⌜ Removed (now (pool .entry)) 1 (placed (now (pool .entry)) allLevels 1) rootStripe p r (now (pool .exit)) ⌝ }
 {
-    let cell = find(pool, p);
+    let met = find(pool, p);
+    let cell = met.cell;
     let slot = pool[cell];
     if slot == 0 {
         return Removal::Missing;
@@ -108,7 +115,7 @@ fn remove(pool: &mut [u32], p: Pair) -> Removal
     if q.y != p.y {
         return Removal::Other;
     }
-    fill(pool, Stripe::LEVELS, cell);
+    fill(pool, met.levels, cell);
     Removal::Done
 }
 

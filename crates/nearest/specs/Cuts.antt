@@ -1,5 +1,5 @@
 -- How the x walks hold a stripe: by its lower end and half of its width.
-use Prim.Native.Nat.{ℕ, zero, suc, _+_, _/_, _≤_, _<_}
+use Prim.Native.Nat.{ℕ, zero, suc, _+_, _/_, _^_, _≤_, _<_}
 use mathlib.Core.Path.{_≡_}
 use Rattle.rule.specs.Stripe.{Stripe}
 use Rattle.nearest.specs.declared.cut.Cut.{Cut}
@@ -29,12 +29,7 @@ rightCut s = record { lower = s .lower + s .half; half = s .half / 2 }
 abbrev pub MiddleFits : Cut → Type 0
 MiddleFits s = s .lower + s .half < 4294967296
 
--- the width of a stripe so many levels above a single x
-unfoldable pub widthAt : ℕ → ℕ
-widthAt zero = 1
-widthAt (suc e) = widthAt e + widthAt e
-
--- a cut so many levels above a single x, which ends where the root's does or before
-pub record CutAt (e : ℕ) (s : Cut) : Type 0 where
-  pub half : s .half ≡ widthAt e / 2
-  pub low : s .lower + widthAt e ≤ 4294967296
+-- a cut with so many levels below it, which ends where the root's does or before
+pub record CutAt (k : ℕ) (s : Cut) : Type 0 where
+  pub half : s .half ≡ 2 ^ k / 2
+  pub low : s .lower + 2 ^ k ≤ 4294967296

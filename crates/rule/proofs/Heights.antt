@@ -1,12 +1,11 @@
 -- The stripe that x lies in, level by level: at each level one bit of x says on which side of the middle x lies.
-use Prim.Native.Nat.{ℕ, zero, suc, _+_, _*_, _-_, _/_, _%_, _^_, _≤_, _<_}
-use mathlib.Core.Path.{_≡_, refl, sym, ap, _∙_, subst}
-use mathlib.Core.Bool.{Bool, true, false, cond}
+use Prim.Native.Nat.{ℕ, suc, _+_, _*_, _-_, _/_, _%_, _^_, _≤_, _<_}
+use mathlib.Core.Path.{_≡_, sym, ap, _∙_, subst}
 use native.Mathlib.Omega.{arith}
 use native.Mathlib.Nat.{two-pow-succ, one-le-pow, add-mul, mul-add, one-mul, div-add-mod', mod-lt, div-div-eq-div-mul, div-eq-of-lt-le, div-eq-of-lt, pow-suc, pow-le-pow-right, mod-eq-of-lt}
 use lib.Dec.{ltb, eqb}
 use borrow.Author.Tests.{lt-ltb, le-ltb, eqb-true, eqb-false}
-use Rattle.rule.specs.Stripe.{Stripe, In, Low, rootStripe, middle, leftPart, rightPart, partOf, stripeAt}
+use Rattle.rule.specs.Stripe.{In, rootStripe, middle, leftPart, rightPart, partOf, stripeAt}
 use Rattle.rule.proofs.Tests.{on}
 
 -- law: a width is not 0
@@ -15,9 +14,6 @@ some k = one-le-pow k 2 (omega arith)
 
 -- the place of x in its stripe
 module _ (k x : ℕ) where
-  rest : ℕ
-  rest = x % 2 ^ k
-
   whole : x / 2 ^ k * 2 ^ k + x % 2 ^ k ≡ x
   whole = div-add-mod' x (2 ^ k)
 

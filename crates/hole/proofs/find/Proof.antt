@@ -1,23 +1,19 @@
--- The invariant: how a removal ends at the place, it ends for the whole tree. The stripe gets smaller.
-use Prim.Native.Nat.{_-_}
+-- The invariant: how a removal ends at the place, it ends for the whole tree. The levels below it get fewer.
 use native.Mathlib.Omega.{arith}
-use Rattle.rule.specs.Shape.{stripeOf}
 use Rattle.hole.specs.Hole.{Reached}
-use Rattle.hole.proofs.Removing.{met-fits, start, found-none, found-met, narrows, reached-on}
+use Rattle.hole.proofs.Removing.{met-fits, start, found-none, found-met, a-level, reached-on}
 use borrow.Author.Needs.{needs}
 use Rattle.hole.proofs.find.Statement.{statement}
 use Rattle.hole.proofs.find.Tie as tie
 
 abbrev Inv-loop : tie.InvT-loop
-Inv-loop pool p cell₀ at₀ cell at = Reached pool cell (stripeOf at) p
+Inv-loop pool p cell₀ levels₀ cell levels = Reached pool levels cell p
 
 abbrev μ-loop : tie.MeasureT-loop
-μ-loop pool p cell₀ at₀ cell at = at .upper - at .lower
+μ-loop pool p cell₀ levels₀ cell levels = levels
 
 loop-holds : tie.Need-loop-holds Inv-loop μ-loop
-loop-holds c =
-    let p2 = c .before .before in
-    start (p2 .pre) (c .root .ensures)
+loop-holds c = start (c .before .pre)
 
 mul-slot : tie.Need-mul-slot Inv-loop μ-loop
 mul-slot c = let h = c .loop .inv .looking .place .inside in search needs
@@ -40,17 +36,24 @@ returns-2 c =
     let p3 = c .before .before .before in let p6 = p3 .before .before .before in
     found-met (p6 .loop .inv) (p3 .pair .ensures) (c .if2 .taken)
 
-goes-left-requires : tie.Need-goes-left-requires Inv-loop μ-loop
-goes-left-requires c κs = c .before .before .before .before .before .before .loop .inv .looking .low
+-- there is a level below
+is-left-requires : tie.Need-is-left-requires Inv-loop μ-loop
+is-left-requires c κs =
+    let p1 = c .before in let p3 = p1 .before .before in let p4 = p3 .before in let p6 = p4 .before .before in
+    (a-level (p6 .loop .inv) (p4 .if1 .left) (omega (arith, p1 .struct-known2 .given .0)) (p3 .pair .ensures) (c .if2 .left), p6 .loop .inv .few)
 
-towards-requires : tie.Need-towards-requires Inv-loop μ-loop
-towards-requires c κs = c .before .before .before .before .before .before .before .before .loop .inv .looking .low
+sub-levels : tie.Need-sub-levels Inv-loop μ-loop
+sub-levels c =
+    let p2 = c .before .before in let p3 = p2 .before in let p5 = p3 .before .before in let p6 = p5 .before in let p8 = p6 .before .before in
+    a-level (p8 .loop .inv) (p6 .if1 .left) (omega (arith, p3 .struct-known2 .given .0)) (p5 .pair .ensures) (p2 .if2 .left)
 
 loop-less : tie.Need-loop-less Inv-loop μ-loop
-loop-less c = narrows (c .before .before .before .before .before .before .before .before .before .loop .inv) (c .before .before .before .before .before .before .before .if1 .left) (omega (arith, c .before .before .before .before .struct-known2 .given .0)) (c .before .before .before .before .before .before .pair .ensures) (c .before .before .before .if2 .left) (c .towards .ensures)
+loop-less c = let d = sub-levels c in search needs
 
 loop-again : tie.Need-loop-again Inv-loop μ-loop
-loop-again c = reached-on (c .before .before .before .before .before .before .before .before .before .loop .inv) (c .before .before .before .before .before .before .before .if1 .left) (omega (arith, c .before .before .before .before .struct-known2 .given .0)) (c .before .before .before .before .before .before .pair .ensures) (c .before .before .before .if2 .left) (c .towards .ensures) (c .before .before .goes-left .ensures) (c .before .link-cell .ensures)
+loop-again c =
+    let p1 = c .before in let p2 = p1 .before in let p3 = p2 .before in let p5 = p3 .before .before in let p6 = p5 .before in let p8 = p6 .before .before in
+    reached-on (p8 .loop .inv) (p6 .if1 .left) (omega (arith, p3 .struct-known2 .given .0)) (p5 .pair .ensures) (p2 .if2 .left) (p1 .is-left .ensures) (c .link-cell .ensures)
 
 pub find-spec : {M : Type 1} → statement M
 find-spec =
@@ -58,15 +61,14 @@ find-spec =
     (tie.spec
     Inv-loop
     μ-loop
-    (λ c κs. search needs)
     loop-holds
     mul-slot
     shared-slice-read-slot
     returns
     pair-requires
     returns-2
-    goes-left-requires
+    is-left-requires
     (λ c κs. search needs)
-    towards-requires
+    sub-levels
     loop-less
     loop-again)

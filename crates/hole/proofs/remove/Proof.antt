@@ -31,7 +31,7 @@ returns-2 c =
 fill-requires : tie.Need-fill-requires
 fill-requires c κs =
     let p6 = c .before .before .before .before .before .before in let p8 = p6 .before .before in
-    hole-there (p8 .find .ensures .reached) (p6 .if1 .left)
+    hole-there (p8 .find .ensures) (p6 .if1 .left)
 
 returns-3 : tie.Need-returns-3
 returns-3 c =
