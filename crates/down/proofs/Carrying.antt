@@ -11,13 +11,14 @@ use lib.Seq.{getD-set-same, getD-set-other, set-getD}
 use borrow.Author.Tests.{lt-ltb, le-ltb}
 use Rattle.rule.specs.declared.Pair.{Pair}
 use Rattle.rule.specs.Pairs.{beats}
-use Rattle.rule.specs.Stripe.{Stripe, middle, leftPart, rightPart, partOf}
-use Rattle.rule.specs.Tree.{Tree, none, fork, Within}
+use Rattle.rule.specs.Stripe.{Stripe, In, middle, leftPart, rightPart, partOf, stripeAt}
+use Rattle.rule.specs.Tree.{Tree, none, fork, Within, Well}
 use Rattle.rule.specs.Changes.{goDown}
 use Rattle.rule.specs.Cells.{perSlot, Fits, freeOf, pairAt, rightAt, putPair, putLinks, linkCell, treeAt}
-use Rattle.rule.specs.Sound.{Leads, nowhere, itself}
+use Rattle.rule.specs.Sound.{Leads, nowhere, slot, itself}
+use Rattle.rule.proofs.Tests.{on}
 use Rattle.rule.proofs.Order.{true-beats, false-beats}
-use Rattle.rule.proofs.Stripes.{low-part}
+use Rattle.rule.proofs.Heights.{in-at, same-at, part-of}
 use Rattle.rule.proofs.GoDown.{Sorted, swap, keep, Down, put, go-left, go-right, down-value}
 use Rattle.rule.proofs.Leads.{back, leads-tree, leads-fits}
 use Rattle.rule.proofs.Standing.{Stands, at-top, down-stands}
@@ -76,6 +77,15 @@ within-near : {s : ℕ} {p : Pair} {u v t : Tree Pair} {b : Bool} (k : ℕ) → 
 within-near k from-left h = h .0
 within-near k from-right h = h .1
 
+-- the pair that is met lies in the stripe of its place, and so does the one that goes on
+pub met-in : {c : List ℕ} {s : ℕ} {t : Tree Pair} (at : Stripe) → Leads c s t → (s ≡ 0 → ⊥) → Well itself at t → In at (pairAt c s .x)
+met-in at nowhere ne w = absurd (ne refl)
+met-in at (slot o l r) ne w = w .inside
+
+goes-in : {at : Stripe} (p q : Pair) → In at (p .x) → In at (q .x) → In at (goesOn p q .x)
+unfolding goesOn
+goes-in p q i j = on (beats p q) (λ e. rw e j) (λ e. rw e i)
+
 -- the way down at a slot s that holds q: w stays, and z goes on in the near tree
 record Turn (f s : ℕ) (w q z : Pair) (b : Bool) (at : Stripe) (before after : Tree Pair) : Type 0 where
   near : Tree Pair
@@ -84,25 +94,27 @@ record Turn (f s : ℕ) (w q z : Pair) (b : Bool) (at : Stripe) (before after : 
   was : Seen s q near far b before
   is : Seen s w grown far b after
   down : Down itself f z at near grown
+  well : Well itself at near
 
 module _ {c : List ℕ} {f s : ℕ} {p q w z : Pair} {b : Bool} {part : Stripe} (at : Stripe) (eq : q ≡ pairAt c s) (ew : w ≡ stays p q) (ez : z ≡ goesOn p q)
     (eb : b ≡ ltb (z .x) (middle at)) (ea : part ≡ partOf at (z .x)) where
   turned : {q′ w′ z′ : Pair} {i : ℕ} {l r near far grown t t′ : Tree Pair} {b′ : Bool} → Reads c s i q′ l r → Seen i q′ near far b′ t
       → Seen i w′ grown far b′ t′ → Sorted itself p q′ w′ z′ → ltb (z′ .x) (middle at) ≡ b′
-      → Down itself f z′ (cond b′ (leftPart at) (rightPart at)) near grown → Turn f s w q z b part t t′
+      → Down itself f z′ (cond b′ (leftPart at) (rightPart at)) near grown → Well itself (cond b′ (leftPart at) (rightPart at)) near
+      → Turn f s w q z b part t t′
   unfolding partOf
-  turned {q′} {w′} {z′} {near = near} {far = far} {grown = grown} {b′ = b′} R was is o side d =
+  turned {q′} {w′} {z′} {near = near} {far = far} {grown = grown} {b′ = b′} R was is o side d h =
       let eq′ : q ≡ q′ = eq ∙ ap (λ v. pairAt c v) (R .here) ∙ R .pair in
       let ew′ : w ≡ w′ = ew ∙ ap (λ v. stays p v) eq′ ∙ sorted-stays o in
       let ez′ : z ≡ z′ = ez ∙ ap (λ v. goesOn p v) eq′ ∙ sorted-goes o in
       let eb′ : b ≡ b′ = eb ∙ rw ez′ side in
       let ea′ : part ≡ cond b′ (leftPart at) (rightPart at) = ea ∙ rw (ez′, side) refl in
-      rw (R .here, eq′, ew′, ez′, eb′, ea′) (record { near = near; far = far; grown = grown; was = was; is = is; down = d })
+      rw (R .here, eq′, ew′, ez′, eb′, ea′) (record { near = near; far = far; grown = grown; was = was; is = is; down = d; well = h })
 
-  turn : {t t′ : Tree Pair} → Leads c s t → (s ≡ 0 → ⊥) → Down itself f p at t t′ → Turn f s w q z b part t t′
-  turn h ne put = absurd (ne (leads-top h))
-  turn h ne (go-left {z = z′} o j d) = turned (leads-reads h) from-left from-left o (lt-ltb (z′ .x) (middle at) j) d
-  turn h ne (go-right {z = z′} o j d) = turned (leads-reads h) from-right from-right o (le-ltb (z′ .x) (middle at) j) d
+  turn : {t t′ : Tree Pair} → Leads c s t → (s ≡ 0 → ⊥) → Down itself f p at t t′ → Well itself at t → Turn f s w q z b part t t′
+  turn h ne put v = absurd (ne (leads-top h))
+  turn h ne (go-left {z = z′} o j d) v = turned (leads-reads h) from-left from-left o (lt-ltb (z′ .x) (middle at) j) d (v .left)
+  turn h ne (go-right {z = z′} o j d) v = turned (leads-reads h) from-right from-right o (le-ltb (z′ .x) (middle at) j) d (v .right)
 
 -- what is known at a place: the tree that is read there, and the one that p goes down into
 module _ {c : List ℕ} {k cell : ℕ} {at : Stripe} {p : Pair} (g : Going c k cell at p) where
@@ -200,7 +212,7 @@ module _ {c : List ℕ} {k cell : ℕ} {at : Stripe} {p : Pair} (g : Going c (su
   e = putPair c s w
 
   T : Turn (freeOf c) s w (pairAt c s) z b (partOf at (z .x)) (g .before) (g .after)
-  T = turn at refl refl refl refl refl (g .leads) ne (g .down)
+  T = turn at refl refl refl refl refl (g .leads) ne (g .down) (g .well)
 
   S : Held c cell s (T .near) (T .far) b
   S = held (T .was) (g .leads) (g .distinct) (g .apart) (g .other)
@@ -232,7 +244,7 @@ module _ {c : List ℕ} {k cell : ℕ} {at : Stripe} {p : Pair} (g : Going c (su
     other = son-other S W;
     down = rw same-free (T .down);
     levels = within-near k (T .is) (g .levels);
-    low = low-part at (z .x) (g .low);
+    well = T .well;
   }
 
   -- the slots of the grown tree are none of the others
@@ -250,31 +262,41 @@ module _ {c : List ℕ} {k cell : ℕ} {at : Stripe} {p : Pair} (g : Going c (su
   deep : k ≡ 0 → ⊥
   deep = within-some k (below .down) (below .levels)
 
-  -- law: there is a level left
-  pub some-left : 1 ≤ k
-  some-left = let d = deep in omega arith
-
-  pub one-less : {t : ℕ} → k ≡ t → k - 1 < t
-  one-less e = let d = deep in omega arith
-
-  -- law: the beaten pair can go down from the son's place
-  pub goes-on : {d : List ℕ} {r : Pair} {side : Bool} {cell′ : ℕ} {at′ : Stripe} → Settled c s p d r → side ≡ ltb (r .x) (middle at) → cell′ ≡ linkCell s side
+  -- the same of the pair, the side and the part as they were worked out
+  goes-on : {d : List ℕ} {r : Pair} {side : Bool} {cell′ : ℕ} {at′ : Stripe} → Settled c s p d r → side ≡ ltb (r .x) (middle at) → cell′ ≡ linkCell s side
       → at′ ≡ partOf at (r .x) → Going d (suc (k - 1)) cell′ at′ r
   goes-on h eb ec ea = rw (back k deep, ea, ec, eb, h .goes, h .cells) below
 
-  -- law: where it has, p has gone down from the place
-  pub gone : {d d′ : List ℕ} {r : Pair} {side : Bool} {cell′ : ℕ} {at′ : Stripe} → Settled c s p d r → side ≡ ltb (r .x) (middle at) → cell′ ≡ linkCell s side
+  gone : {d d′ : List ℕ} {r : Pair} {side : Bool} {cell′ : ℕ} {at′ : Stripe} → Settled c s p d r → side ≡ ltb (r .x) (middle at) → cell′ ≡ linkCell s side
       → at′ ≡ partOf at (r .x) → Carried d (suc (k - 1)) cell′ at′ r d′ → Carried c (suc k) cell at p d′
   gone h eb ec ea q = up (rw (back k deep, ea, ec, eb, h .goes, h .cells) at q)
 
--- a pair that does not beat the one it meets goes on, and changes nothing
-module _ {c : List ℕ} {k cell : ℕ} {at : Stripe} {p q : Pair} {t : Bool} (ne : getD c cell 0 ≡ 0 → ⊥) (eq : q ≡ pairAt c (getD c cell 0)) (et : t ≡ beats p q) (f : t ≡ false)
-    {side : Bool} {cell′ : ℕ} {at′ : Stripe} (eb : side ≡ ltb (p .x) (middle at)) (ec : cell′ ≡ linkCell (getD c cell 0) side) (ea : at′ ≡ partOf at (p .x)) (g : Going c k cell at p) where
-  here : Going c (suc (k - 1)) cell at p
-  here = rw (back k (within-some k (g .down) (g .levels))) g
+-- the same in the stripe that x lies in: the pair that goes on lies in it too
+module _ {c : List ℕ} {k cell : ℕ} {p : Pair} (g : Going c (suc k) cell (stripeAt k (p .x)) p) (ne : getD c cell 0 ≡ 0 → ⊥) where
+  -- law: there is a level left
+  pub some-left : 1 ≤ k
+  some-left = let d = deep g ne in omega arith
 
-  pub passes : Going c (k - 1) cell′ at′ p
-  passes = rw (back (k - 1) (deep here ne)) at (goes-on here ne (settle-keep eq et f) eb ec ea)
+  pub one-less : {t : ℕ} → k ≡ t → k - 1 < t
+  one-less e = let d = deep g ne in omega arith
 
-  pub passed : {d : List ℕ} → Carried c (k - 1) cell′ at′ p d → Carried c k cell at p d
-  passed {d} h = rw (back k (within-some k (g .down) (g .levels))) at (gone here ne {d′ = d} (settle-keep eq et f) eb ec ea (rw (back (k - 1) (deep here ne)) h))
+  module _ {d : List ℕ} {r : Pair} (h : Settled c (getD c cell 0) p d r) {side : Bool} (eb : side ≡ ltb (r .x) (middle (stripeAt k (r .x)))) {cell′ : ℕ}
+      (ec : cell′ ≡ linkCell (getD c cell 0) side) where
+    same-stripe : stripeAt k (r .x) ≡ stripeAt k (p .x)
+    same-stripe =
+        let i : In (stripeAt k (p .x)) (r .x) = rw (h .goes) (goes-in p (pairAt c (getD c cell 0)) (in-at k (p .x)) (met-in (stripeAt k (p .x)) (g .leads) ne (g .well))) in
+        same-at k (p .x) (r .x) i
+
+    same-side : side ≡ ltb (r .x) (middle (stripeAt k (p .x)))
+    same-side = eb ∙ ap (λ a. ltb (r .x) (middle a)) same-stripe
+
+    same-part : stripeAt (k - 1) (r .x) ≡ partOf (stripeAt k (p .x)) (r .x)
+    same-part = sym (part-of k (r .x) some-left) ∙ ap (λ a. partOf a (r .x)) same-stripe
+
+    -- law: the beaten pair can go down from the son's place
+    pub goes-down : Going d (suc (k - 1)) cell′ (stripeAt (k - 1) (r .x)) r
+    goes-down = goes-on g ne h same-side ec same-part
+
+    -- law: where it has, p has gone down from the place
+    pub gone-down : {d′ : List ℕ} → Carried d (suc (k - 1)) cell′ (stripeAt (k - 1) (r .x)) r d′ → Carried c (suc k) cell (stripeAt k (p .x)) p d′
+    gone-down q = gone g ne h same-side ec same-part q

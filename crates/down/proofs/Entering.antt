@@ -1,25 +1,27 @@
 -- A pair that enters a sound pool: it goes down from the root, past all above the place where it first changes something, and the count moves.
-use Prim.Native.Nat.{ℕ, suc, _+_, _<_}
-use mathlib.Core.Path.{_≡_, refl, sym, _∙_}
+use Prim.Native.Nat.{ℕ, suc, _+_, _-_, _≤_, _<_}
+use mathlib.Core.Path.{_≡_, refl, sym, _∙_, subst}
 use mathlib.Core.Logic.{_≢_}
 use mathlib.Core.Bool.{Bool, true, false}
 use mathlib.Core.List.{List}
+use native.Mathlib.Numerals.{add-one}
 use native.Mathlib.Omega.{arith}
 use lib.Dec.{ltb}
 use lib.ListN.{getD, set}
 use Rattle.rule.specs.declared.Pair.{Pair}
 use Rattle.rule.specs.Plain.{hasX}
 use Rattle.rule.specs.Pairs.{beats}
-use Rattle.rule.specs.Stripe.{Stripe, rootStripe, middle, partOf}
-use Rattle.rule.specs.Tree.{size}
+use Rattle.rule.specs.Stripe.{Stripe, In, rootStripe, middle, partOf, stripeAt}
+use Rattle.rule.specs.Tree.{Well}
 use Rattle.rule.specs.Changes.{met}
 use Rattle.rule.specs.Cells.{rootOf, freeOf, countOf, pairAt, sonAt, linkCell, stored, treeAt}
-use Rattle.rule.specs.Sound.{Sound, Leads, lowLevels, allLevels, itself}
+use Rattle.rule.specs.Sound.{Sound, lowLevels, allLevels, itself}
 use Rattle.rule.specs.Laid.{inserted}
 use Rattle.rule.proofs.Tests.{on, clash}
 use Rattle.rule.proofs.Stripes.{low-root}
 use Rattle.rule.proofs.Trees.{all-map, all-mem, New}
-use Rattle.rule.proofs.Leads.{within-more, tree-fork, tree-deeper, leads-son}
+use Rattle.rule.proofs.Heights.{one-at, root-at, part-of}
+use Rattle.rule.proofs.Leads.{back, tree-fork}
 use Rattle.rule.proofs.Levels.{root-levels}
 use Rattle.rule.proofs.Halving.{mem-met, new-unmet}
 use Rattle.rule.proofs.Having.{hasX-true, true-hasX}
@@ -34,7 +36,7 @@ use Rattle.changes.specs.Places.{Replaced}
 use Rattle.changes.proofs.Links.{link-inside, link-son}
 use Rattle.changes.proofs.Counting.{counted}
 use Rattle.down.specs.Down.{Enters, Going, Carried, Reached}
-use Rattle.down.proofs.Carrying.{passes, passed}
+use Rattle.down.proofs.Carrying.{settle-keep, met-in, goes-down, gone-down}
 
 -- whether x is stored
 module _ {c : List ℕ} (s : Sound c) where
@@ -48,12 +50,17 @@ module _ {c : List ℕ} (s : Sound c) where
       rw (h .same) at m ∙ sym t)
       (λ t. new-unmet itself x rootStripe (s .tree) (unstored-new x t) ∙ sym t)
 
-  root-sought : (v : ℕ) (at : Stripe) → v ≡ rootOf c → at ≡ rootStripe → Sought c allLevels v at
-  root-sought v at ev ea = rw (ev, ea) (record { leads = rw (sound-tree c s) (s .links); low = low-root refl })
+  -- the root's tree, in its stripe
+  module _ {at : Stripe} (ea : at ≡ rootStripe) where
+    root-sought : Sought c allLevels (rootOf c) at
+    root-sought = rw ea (record { leads = rw (sound-tree c s) (s .links); low = low-root refl })
 
-  -- law: x is met from the root exactly where it is stored
-  root-met : (x v : ℕ) (at : Stripe) (r : Bool) → v ≡ rootOf c → at ≡ rootStripe → r ≡ met itself x at (treeAt c allLevels v) → r ≡ hasX x (stored c)
-  root-met x v at r ev ea er = er ∙ rw (ev, ea, sound-tree c s) (tree-met x)
+    root-formed : Well itself at (treeAt c allLevels (rootOf c))
+    root-formed = rw (ea, sound-tree c s) (sound-well c s)
+
+    -- law: x is met from the root exactly where it is stored
+    root-met : (x : ℕ) → met itself x at (treeAt c allLevels (rootOf c)) ≡ hasX x (stored c)
+    root-met x = rw (ea, sound-tree c s) (tree-met x)
 
   -- law: a pair whose x is not stored may enter where a slot is free
   pub enters : (p : Pair) → hasX (p .x) (stored c) ≡ false → freeOf c ≢ 0 → Enters c p
@@ -78,7 +85,7 @@ module _ {c : List ℕ} {p : Pair} (n : Enters c p) (b : p .x < 4294967296) {at 
         other = λ e. omega arith;
         down = grown-down s p (n .new) b (n .room);
         levels = root-levels itself (grown s p) (grown-well s p (n .new) b (n .room));
-        low = low-root refl;
+        well = sound-well c s;
       })
 
   root-replaced : {d : List ℕ} → Carried c allLevels 1 at p d → Replaced c 1 (grown (n .sound) p) (grown (n .sound) p) d
@@ -92,77 +99,86 @@ module _ {c : List ℕ} {p : Pair} (n : Enters c p) (b : p .x < 4294967296) {at 
       inserted-one s p (n .new) b (n .room) (counted s R (λ m. omega (arith, leads-slot (grown s p) (R .leads) m .some)) (h .first) (countOf c + 1))
 
 -- law: the way down starts at the root
-pub reached-root : {c : List ℕ} {p : Pair} {at : Stripe} → Sound c → p .x < 4294967296 → at ≡ rootStripe → Reached c p 1 at
-reached-root {c} {p} {at} s b ea =
+pub reached-root : {c : List ℕ} {p : Pair} → Sound c → p .x < 4294967296 → Reached c p 1 lowLevels
+reached-root {c} {p} s b =
     let h = header-fits (s .pool) in
+    let ea = root-at (p .x) b in
     record {
       inside = omega arith;
-      sought = root-sought s (rootOf c) at refl ea;
-      same = root-met s (p .x) (rootOf c) at _ refl ea refl;
+      most = omega arith;
+      sought = root-sought s ea;
+      well = root-formed s ea;
+      same = root-met s ea (p .x);
       going = λ n. root-going n b ea;
       whole = λ n. entered n b ea;
     }
 
--- a place that is read one level deeper than there is need
-module _ {c : List ℕ} (k : ℕ) where
-  deeper-sought : {s : ℕ} {at : Stripe} → Sought c k s at → Sought c (suc k) s at
-  deeper-sought o = record { leads = rw (tree-deeper c k _ (o .leads)) (o .leads); low = o .low }
+-- the search from a place on the way, one level deeper than the levels below it
+module _ {c : List ℕ} {p : Pair} {cell k : ℕ} (R : Reached c p cell k) {at : Stripe} (ea : at ≡ stripeAt k (p .x)) where
+  pub search-from : Sought c (k + 1) (getD c cell 0) at
+  search-from = rw (add-one, ea) (R .sought)
 
-  deeper-going : {cell : ℕ} {at : Stripe} {p : Pair} → Going c k cell at p → Going c (suc k) cell at p
-  deeper-going g = record {
-    before = g .before;
-    after = g .after;
-    inside = g .inside;
-    leads = g .leads;
-    distinct = g .distinct;
-    apart = g .apart;
-    free = g .free;
-    new = g .new;
-    elsewhere = g .elsewhere;
-    other = g .other;
-    down = g .down;
-    levels = within-more k (suc k) (g .after) (omega arith) (g .levels);
-    low = g .low;
-  }
+  -- law: it meets x exactly where x is stored
+  pub search-meets : {r : Bool} → r ≡ met itself (p .x) at (treeAt c (k + 1) (getD c cell 0)) → r ≡ hasX (p .x) (stored c)
+  search-meets e = rw (add-one, ea) at e ∙ R .same
 
-  son-smaller : {s : ℕ} (b : Bool) → Leads c s (treeAt c (suc k) s) → (s ≡ 0 → ⊥) → size (treeAt c (suc k) (sonAt c s b)) < size (treeAt c (suc k) s)
-  unfolding sonAt
-  son-smaller {s} true l ne = rw (tree-deeper c k _ (leads-son c k s true l ne), tree-fork c k s ne) (omega arith)
-  son-smaller {s} false l ne = rw (tree-deeper c k _ (leads-son c k s false l ne), tree-fork c k s ne) (omega arith)
+-- the son's tree on x's side is well formed in the part on x's side
+well-son : (c : List ℕ) (k s x : ℕ) (at : Stripe) (side : Bool) → (s ≡ 0 → ⊥) → ltb x (middle at) ≡ side → Well itself at (treeAt c (suc k) s)
+    → Well itself (partOf at x) (treeAt c k (sonAt c s side))
+unfolding partOf sonAt
+well-son c k s x at true ne e w = rw e ((rw (tree-fork c k s ne) at w) .left)
+well-son c k s x at false ne e w = rw e ((rw (tree-fork c k s ne) at w) .right)
 
--- on past a pair that p does not beat
-module _ {c : List ℕ} {cell : ℕ} {at : Stripe} {p q : Pair} {t : Bool} (R : Reached c p cell at) (ne : getD c cell 0 ≡ 0 → ⊥) (eq : q ≡ pairAt c (getD c cell 0))
-    (nx : q .x ≡ p .x → ⊥) (et : t ≡ beats p q) (f : t ≡ false) {side : Bool} {cell′ : ℕ} {at′ : Stripe} (eb : side ≡ ltb (p .x) (middle at))
-    (ec : cell′ ≡ linkCell (getD c cell 0) side) (ea : at′ ≡ partOf at (p .x)) where
+-- on past a pair with another x
+module _ {c : List ℕ} {k cell : ℕ} {p q : Pair} (R : Reached c p cell k) (ne : getD c cell 0 ≡ 0 → ⊥) (eq : q ≡ pairAt c (getD c cell 0)) (nx : q .x ≡ p .x → ⊥) where
   abbrev s : ℕ
   s = getD c cell 0
 
-  es : getD c cell′ 0 ≡ sonAt c s side
-  es = rw ec (link-son c s side)
+  abbrev at : Stripe
+  at = stripeAt k (p .x)
 
   nx′ : pairAt c s .x ≡ p .x → ⊥
   nx′ = rw eq at nx
 
-  next : Sought c lowLevels (getD c cell′ 0) at′
-  next = sought-on c allLevels s at (p .x) (R .sought) ne nx′ side _ at′ eb es ea
+  deep : k ≡ 0 → ⊥
+  deep e =
+      let i = met-in at (R .sought .leads) ne (R .well) in
+      nx′ (one-at (p .x) (pairAt c s .x) (subst (λ m. In (stripeAt m (p .x)) (pairAt c s .x)) e i))
 
-  -- the son's place, read as deep as any
-  same-tree : treeAt c allLevels (getD c cell′ 0) ≡ treeAt c lowLevels (getD c cell′ 0)
-  same-tree = tree-deeper c lowLevels _ (next .leads)
+  -- law: two x lie in the stripe, so there is a level left
+  pub level-left : 1 ≤ k
+  level-left = let d = deep in omega arith
 
-  shallower : {d : List ℕ} → Carried c allLevels cell′ at′ p d → Carried c lowLevels cell′ at′ p d
-  shallower h = record { place = rw same-tree at (h .place); first = h .first }
+  -- and one that p does not beat
+  module _ {t : Bool} (et : t ≡ beats p q) (f : t ≡ false) {side : Bool} (eb : side ≡ ltb (p .x) (middle at)) {cell′ : ℕ} (ec : cell′ ≡ linkCell s side) where
+    abbrev at′ : Stripe
+    at′ = stripeAt (k - 1) (p .x)
 
-  -- law: the son's place is on the way
-  pub reached-on : Reached c p cell′ at′
-  reached-on = record {
-    inside = rw ec (link-inside c s side (there c allLevels s at (p .x) (R .sought) ne));
-    sought = deeper-sought lowLevels next;
-    same = rw same-tree (met-on c allLevels s at (p .x) (R .sought) ne nx′ side _ at′ eb es ea ∙ R .same);
-    going = λ n. deeper-going lowLevels (passes ne eq et f eb ec ea (R .going n));
-    whole = λ n d h. R .whole n d (passed ne eq et f eb ec ea (R .going n) (shallower h));
-  }
+    es : getD c cell′ 0 ≡ sonAt c s side
+    es = rw ec (link-son c s side)
 
-  -- law: and has fewer slots from it down
-  pub fewer : size (treeAt c allLevels (getD c cell′ 0)) < size (treeAt c allLevels s)
-  fewer = rw es (son-smaller lowLevels side (R .sought .leads) ne)
+    ea : at′ ≡ partOf at (p .x)
+    ea = sym (part-of k (p .x) level-left)
+
+    fell : suc (k - 1) ≡ suc k - 1
+    fell = let d = level-left in omega arith
+
+    next : Sought c (suc k - 1) (getD c cell′ 0) at′
+    next = sought-on c (suc k) s at (p .x) (R .sought) ne nx′ side _ at′ eb es ea
+
+    next-well : Well itself at′ (treeAt c k (getD c cell′ 0))
+    next-well = subst (λ a. Well itself a (treeAt c k (getD c cell′ 0))) (sym ea) (rw es (well-son c k s (p .x) at side ne (sym eb) (R .well)))
+
+    -- law: the son's place is on the way
+    pub reached-on : Reached c p cell′ (k - 1)
+    reached-on =
+        let m = R .most in
+        record {
+          inside = rw ec (link-inside c s side (there c (suc k) s at (p .x) (R .sought) ne));
+          most = omega arith;
+          sought = rw fell next;
+          well = rw (back k deep) next-well;
+          same = rw fell (met-on c (suc k) s at (p .x) (R .sought) ne nx′ side _ at′ eb es ea ∙ R .same);
+          going = λ n. goes-down (R .going n) ne (settle-keep eq et f) eb ec;
+          whole = λ n d h. R .whole n d (gone-down (R .going n) ne (settle-keep eq et f) eb ec h);
+        }

@@ -1,5 +1,5 @@
 -- A pair that goes down from a place.
-use Prim.Native.Nat.{ℕ, _+_, _<_, _/_}
+use Prim.Native.Nat.{ℕ, suc, _+_, _≤_, _<_, _/_}
 use mathlib.Core.Path.{_≡_}
 use mathlib.Core.Logic.{_≢_}
 use mathlib.Core.Bool.{cond}
@@ -8,12 +8,12 @@ use lib.ListN.{length, getD, set}
 use Rattle.rule.specs.declared.Pair.{Pair}
 use Rattle.rule.specs.Pairs.{beats}
 use Rattle.rule.specs.Plain.{hasX}
-use Rattle.rule.specs.Stripe.{Stripe, Low}
-use Rattle.rule.specs.Tree.{Tree, Within}
+use Rattle.rule.specs.Stripe.{Stripe, stripeAt}
+use Rattle.rule.specs.Tree.{Tree, Within, Well}
 use Rattle.rule.specs.Changes.{met, goDown}
 use Rattle.rule.specs.Cells.{perSlot, freeOf, countOf, pairAt, rightAt, putPair, putLinks, treeAt, stored}
 use Rattle.rule.specs.Laid.{inserted}
-use Rattle.rule.specs.Sound.{Sound, Slot, Leads, itself, allLevels}
+use Rattle.rule.specs.Sound.{Sound, Slot, Leads, itself, lowLevels}
 use Rattle.rule.proofs.GoDown.{Down}
 use Rattle.rule.proofs.Standing.{Stands, Distinct}
 use Rattle.rule.proofs.Trees.{New}
@@ -26,7 +26,8 @@ pub record Enters (c : List ℕ) (p : Pair) : Type 0 where
   pub new : New itself (p .x) (sound .tree)
   pub room : freeOf c ≢ 0
 
--- what is known on the way down, at the place whose link is in a cell, with k levels left: p can go down there within these levels
+-- what is known on the way down, at the place whose link is in a cell, with k levels left: the tree there is well formed in the
+-- stripe, and p can go down there within these levels
 pub record Going (c : List ℕ) (k cell : ℕ) (at : Stripe) (p : Pair) : Type 0 where
   pub before : Tree Pair
   pub after : Tree Pair
@@ -40,7 +41,7 @@ pub record Going (c : List ℕ) (k cell : ℕ) (at : Stripe) (p : Pair) : Type 0
   pub other : cell ≢ 2
   pub down : Down itself (freeOf c) p at before after
   pub levels : Within k after
-  pub low : Low at
+  pub well : Well itself at before
 
 -- the place holds the tree that p went down in, and the next free slot is the first
 pub record Carried (c : List ℕ) (k cell : ℕ) (at : Stripe) (p : Pair) (d : List ℕ) : Type 0 where
@@ -70,11 +71,14 @@ pub record Room (c : List ℕ) (cell : ℕ) : Type 0 where
 unfoldable pub taken : List ℕ → ℕ → Pair → List ℕ
 taken c cell p = let s = freeOf c in set (set (putLinks (putPair c s p) s 0 0) 2 (rightAt c s)) cell s
 
--- on p's way down, at a place: x is met from there on exactly where it is stored; and a p that may enter can go down from there,
--- and is inserted where it has and the count has moved
-pub record Reached (c : List ℕ) (p : Pair) (cell : ℕ) (at : Stripe) : Type 0 where
+-- on p's way down, at a place with so many levels below it: the tree there is well formed in the stripe that p's x lies in; x is met
+-- from there on exactly where it is stored; and a p that may enter can go down from there, and is inserted where it has and the count
+-- has moved
+pub record Reached (c : List ℕ) (p : Pair) (cell levels : ℕ) : Type 0 where
   pub inside : cell < length c
-  pub sought : Sought c allLevels (getD c cell 0) at
-  pub same : met itself (p .x) at (treeAt c allLevels (getD c cell 0)) ≡ hasX (p .x) (stored c)
-  pub going : Enters c p → Going c allLevels cell at p
-  pub whole : Enters c p → (d : List ℕ) → Carried c allLevels cell at p d → set d 3 (countOf c + 1) ≡ inserted c p
+  pub most : levels ≤ lowLevels
+  pub sought : Sought c (suc levels) (getD c cell 0) (stripeAt levels (p .x))
+  pub well : Well itself (stripeAt levels (p .x)) (treeAt c (suc levels) (getD c cell 0))
+  pub same : met itself (p .x) (stripeAt levels (p .x)) (treeAt c (suc levels) (getD c cell 0)) ≡ hasX (p .x) (stored c)
+  pub going : Enters c p → Going c (suc levels) cell (stripeAt levels (p .x)) p
+  pub whole : Enters c p → (d : List ℕ) → Carried c (suc levels) cell (stripeAt levels (p .x)) p d → set d 3 (countOf c + 1) ≡ inserted c p

@@ -2,12 +2,12 @@
 use rule::Pair;
 use rule::Stripe;
 ghost use mathlib.Core.Path.{_≡_};
-ghost use Prim.Native.Nat.{suc};
+ghost use Prim.Native.Nat.{suc, _≤_};
 ghost use Rattle.rule.specs.Cells.{Fits, stored};
 ghost use Rattle.rule.specs.Laid.{inserted};
 ghost use Rattle.rule.specs.Plain.{hasX};
-ghost use Rattle.rule.specs.Shape.{stripeOf};
 ghost use Rattle.rule.specs.Sound.{Sound};
+ghost use Rattle.rule.specs.Stripe.{stripeAt};
 ghost use Rattle.down.specs.Down.{Enters, Going, Carried, Settled, Room, Reached, taken};
 
 // Where a pair meets a slot's, the better one stays there, and the beaten one goes on.
@@ -36,10 +36,10 @@ fn take_free(pool: &mut [u32], cell: usize, p: Pair)
     pool[cell] = slot;
 }
 
-// A pair goes down from the place whose link is in a cell, with so many levels below it.
-fn carry(pool: &mut [u32], levels: u32, cell: usize, at: Stripe, p: Pair)
-    requires { ⌜ Going (now pool) (suc levels) cell (stripeOf at) p ⌝ }
-    ensures { λ _. ⌜ Carried (now (pool .entry)) (suc levels) cell (stripeOf at) p (now (pool .exit)) ⌝ }
+// A pair goes down from the place whose link is in a cell, with so many levels below it: at each slot a bit of x says the side.
+fn carry(pool: &mut [u32], levels: u32, cell: usize, p: Pair)
+    requires { ⌜ (levels ≤ 32) × Going (now pool) (suc levels) cell (stripeAt levels (p .x)) p ⌝ }
+    ensures { λ _. ⌜ Carried (now (pool .entry)) (suc levels) cell (stripeAt levels (p .x)) p (now (pool .exit)) ⌝ }
 {
     let slot = pool[cell];
     if slot == 0 {
@@ -50,59 +50,63 @@ fn carry(pool: &mut [u32], levels: u32, cell: usize, at: Stripe, p: Pair)
     carry(
         pool,
         levels - 1,
-        cells::link_cell(slot, at.goes_left(down.x)),
-        at.towards(down.x),
+        cells::link_cell(slot, Stripe::is_left(down.x, levels)),
         down,
     );
 }
 
-// A place of the tree: the cell of its link, and its stripe.
+// A place of the tree: the cell of its link, and the levels below it.
 pub struct Place {
     pub cell: usize,
-    pub at: Stripe,
+    pub levels: u32,
 }
 
 // The first place on p's way down that is empty, or holds p's x or a pair that p beats. Above it p changes nothing.
 pub fn place_for(pool: &[u32], p: Pair) -> Place
     requires { ⌜ Sound (now pool) ⌝ }
-    ensures { λ r. ⌜ Reached (now (pool .entry)) p (r .cell) (stripeOf (r .at)) ⌝ }
+    ensures { λ r. ⌜ Reached (now (pool .entry)) p (r .cell) (r .levels) ⌝ }
 {
     let mut cell = cells::ROOT_CELL;
-    let mut at = Stripe::root();
+    let mut levels = Stripe::LEVELS;
     loop {
         let slot = pool[cell];
         if slot == 0 {
-            return Place { cell, at };
+            return Place { cell, levels };
         }
         let q = cells::pair(pool, slot);
         if p.beats(q) {
-            return Place { cell, at };
+            return Place { cell, levels };
         }
         if q.x == p.x {
-            return Place { cell, at };
+            return Place { cell, levels };
         }
-        cell = cells::link_cell(slot, at.goes_left(p.x));
-        at = at.towards(p.x);
+        cell = cells::link_cell(slot, Stripe::is_left(p.x, levels));
+        levels -= 1;
     }
 }
 
 // Whether p's x is stored, with whatever y: it is looked for from that place on.
 pub fn is_stored(pool: &[u32], place: Place, p: Pair) -> bool
-    requires { ⌜ Reached (now pool) p (place .cell) (stripeOf (place .at)) ⌝ }
+    requires { ⌜ Reached (now pool) p (place .cell) (place .levels) ⌝ }
     ensures { λ r. ⌜ r ≡ hasX (p .x) (stored (now (pool .entry))) ⌝ }
 {
     let cell = place.cell;
-    let at = place.at;
-    halving::met(pool, Stripe::LEVELS + 1, pool[cell], at, p.x)
+    let levels = place.levels;
+    halving::met(
+        pool,
+        levels + 1,
+        pool[cell],
+        Stripe::around(p.x, levels),
+        p.x,
+    )
 }
 
 // Stores a pair whose x is new, in a pool with a free slot: it goes down from that place.
 pub fn insert(pool: &mut [u32], place: Place, p: Pair)
-    requires { ⌜ Enters (now pool) p × Reached (now pool) p (place .cell) (stripeOf (place .at)) ⌝ }
+    requires { ⌜ Enters (now pool) p × Reached (now pool) p (place .cell) (place .levels) ⌝ }
     ensures { λ _. ⌜ now (pool .exit) ≡ inserted (now (pool .entry)) p ⌝ }
 {
     let count = cells::count(pool);
-    let at = place.at;
-    carry(pool, Stripe::LEVELS, place.cell, at, p);
+    carry(pool, place.levels, place.cell, p);
     cells::put_count(pool, count + 1);
 }

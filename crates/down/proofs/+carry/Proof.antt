@@ -1,6 +1,7 @@
 -- At an empty place the free slot is taken; at a slot the beaten pair goes on, with a level less.
 use Prim.Native.Nat.{ℕ, _<_}
-use Rattle.down.proofs.Carrying.{going-room, going-fits, put-there, some-left, one-less, goes-on, gone}
+use native.Mathlib.Omega.{arith}
+use Rattle.down.proofs.Carrying.{going-room, going-fits, put-there, some-left, one-less, goes-down, gone-down}
 use borrow.Author.Needs.{needs}
 use borrow.Fn.Kinds.{In}
 use borrow.Fn.PlainCycle.{Measures, is, falls, and}
@@ -10,8 +11,7 @@ use Rattle.down.proofs.+carry.Lts-carry as carry-lts
 use Rattle.cells.proofs.link_cell.Reads as link-cell-reads
 use Rattle.down.proofs.settle.Reads as settle-reads
 use Rattle.down.proofs.take_free.Reads as take-free-reads
-use Rattle.rule.proofs.Stripe.goes_left.Reads as goes-left-reads
-use Rattle.rule.proofs.Stripe.towards.Reads as towards-reads
+use Rattle.rule.proofs.Stripe.is_left.Reads as is-left-reads
 use Rattle.down.proofs.+carry.{statement}
 use Rattle.down.proofs.+carry.Tie.{close}
 
@@ -25,44 +25,43 @@ abbrev carry-below : ℕ → In 1 carry-kinds.ps
 carry-below t = and 1 carry-kinds.ps (falls 1 carry-kinds.ps _<_ μ-carry t) carry.Pre
 
 abbrev carry-calls : ℕ → carry-lts.Claims
-carry-calls t = (take-free-reads.Asked, take-free-reads.Learnt, settle-reads.Asked, settle-reads.Learnt, goes-left-reads.Asked, goes-left-reads.Learnt, link-cell-reads.Asked, link-cell-reads.Learnt, towards-reads.Asked, towards-reads.Learnt, carry-below t, carry.Post)
+carry-calls t = (take-free-reads.Asked, take-free-reads.Learnt, settle-reads.Asked, settle-reads.Learnt, is-left-reads.Asked, is-left-reads.Learnt, link-cell-reads.Asked, link-cell-reads.Learnt, carry-below t, carry.Post)
 
 carry-slice-read-slot : (t : ℕ) → carry-lts.Need-slice-read-slot (carry-calls t) (carry-at t) carry.Post
-carry-slice-read-slot t c = c .before .before .pre .1 .inside
+carry-slice-read-slot t c = c .before .before .pre .1 .1 .inside
 
 carry-take-free-requires : (t : ℕ) → carry-lts.Need-take-free-requires (carry-calls t) (carry-at t) carry.Post
-carry-take-free-requires t c κs = going-room (c .before .before .before .before .pre .1)
+carry-take-free-requires t c κs = going-room (c .before .before .before .before .pre .1 .1)
 
 carry-returns : (t : ℕ) → carry-lts.Need-returns (carry-calls t) (carry-at t) carry.Post
 carry-returns t c =
     let p2 = c .before .before in let p4 = p2 .before .before in let p7 = p4 .before .before .before in
-    put-there (p7 .pre .1) (p4 .if1 .taken) (p2 .take-free .ensures)
+    put-there (p7 .pre .1 .1) (p4 .if1 .taken) (p2 .take-free .ensures)
 
 carry-settle-requires : (t : ℕ) → carry-lts.Need-settle-requires (carry-calls t) (carry-at t) carry.Post
 carry-settle-requires t c κs =
     let p1 = c .before in let p4 = p1 .before .before .before in
-    going-fits (p4 .pre .1) (p1 .if1 .left)
+    going-fits (p4 .pre .1 .1) (p1 .if1 .left)
 
 carry-sub-carry : (t : ℕ) → carry-lts.Need-sub-carry (carry-calls t) (carry-at t) carry.Post
 carry-sub-carry t c =
     let p5 = c .before .before .before .before .before in let p8 = p5 .before .before .before in
-    some-left (p8 .pre .1) (p5 .if1 .left)
+    some-left (p8 .pre .1 .1) (p5 .if1 .left)
 
-carry-goes-left-requires : (t : ℕ) → carry-lts.Need-goes-left-requires (carry-calls t) (carry-at t) carry.Post
-carry-goes-left-requires t c κs = c .before .before .before .before .before .before .before .before .pre .1 .low
-
-carry-towards-requires : (t : ℕ) → carry-lts.Need-towards-requires (carry-calls t) (carry-at t) carry.Post
-carry-towards-requires t c κs = c .before .before .before .before .before .before .before .before .before .before .pre .1 .low
+carry-is-left-requires : (t : ℕ) → carry-lts.Need-is-left-requires (carry-calls t) (carry-at t) carry.Post
+carry-is-left-requires t c κs =
+    let p5 = c .before .before .before .before .before in let p8 = p5 .before .before .before in
+    (some-left (p8 .pre .1 .1) (p5 .if1 .left), p8 .pre .1 .0)
 
 carry-carry-requires : (t : ℕ) → carry-lts.Need-carry-requires (carry-calls t) (carry-at t) carry.Post
 carry-carry-requires t c κs =
-    let p1 = c .before in let p2 = p1 .before in let p6 = p2 .before .before .before .before in let p8 = p6 .before .before in let p11 = p8 .before .before .before in
-    (one-less (p11 .pre .1) (p8 .if1 .left) (p11 .pre .0), goes-on (p11 .pre .1) (p8 .if1 .left) (p6 .settle .ensures) (p2 .goes-left .ensures) (p1 .link-cell .ensures) (c .towards .ensures))
+    let p1 = c .before in let p5 = p1 .before .before .before .before in let p7 = p5 .before .before in let p10 = p7 .before .before .before in
+    (one-less (p10 .pre .1 .1) (p7 .if1 .left) (p10 .pre .0), (omega (arith, p10 .pre .1 .0), goes-down (p10 .pre .1 .1) (p7 .if1 .left) (p5 .settle .ensures) (p1 .is-left .ensures) (c .link-cell .ensures)))
 
 carry-returns-2 : (t : ℕ) → carry-lts.Need-returns-2 (carry-calls t) (carry-at t) carry.Post
 carry-returns-2 t c =
-    let p2 = c .before .before in let p3 = p2 .before in let p4 = p3 .before in let p5 = p4 .before in let p9 = p5 .before .before .before .before in let p11 = p9 .before .before in let p14 = p11 .before .before .before in
-    gone (p14 .pre .1) (p11 .if1 .left) (p9 .settle .ensures) (p5 .goes-left .ensures) (p4 .link-cell .ensures) (p3 .towards .ensures) (p2 .carry .ensures)
+    let p2 = c .before .before in let p3 = p2 .before in let p4 = p3 .before in let p8 = p4 .before .before .before .before in let p10 = p8 .before .before in let p13 = p10 .before .before .before in
+    gone-down (p13 .pre .1 .1) (p10 .if1 .left) (p8 .settle .ensures) (p4 .is-left .ensures) (p3 .link-cell .ensures) (p2 .carry .ensures)
 
 pub +carry-spec : {M : Type 1} → statement M
 +carry-spec = close μ-carry λ t. carry-lts.spec (carry-calls t) (carry-at t) carry.Post
@@ -73,9 +72,8 @@ pub +carry-spec : {M : Type 1} → statement M
     (carry-returns t)
     (carry-settle-requires t)
     (carry-sub-carry t)
-    (carry-goes-left-requires t)
+    (carry-is-left-requires t)
     (λ c κs. search needs)
-    (carry-towards-requires t)
     (carry-carry-requires t)
     (λ c. search needs)
     (carry-returns-2 t)
