@@ -1,11 +1,12 @@
 -- A call that tells an answer tells the promised one, since the answer is the promised one.
 use Prim.Native.Nat.{ℕ}
-use mathlib.Core.Path.{_≡_, ap, _∙_}
+use mathlib.Core.Path.{_≡_, ap, sym, _∙_}
 use mathlib.Core.List.{List, [], _∷_}
 use Rattle.rule.specs.declared.Answer.{Answer}
 use Rattle.rule.specs.declared.Five.{Five}
-use Rattle.rule.specs.Answer.{five}
+use Rattle.rule.specs.Answer.{five, ended}
 use Rattle.rule.specs.Refusals.{Left, Leaves}
+use Rattle.rule.proofs.Numbers.{ended-numbers}
 use Rattle.drecerunya.specs.Told.{codeOf, numbers, Tells, LeavesCode, LeavesTold}
 
 -- law: the code of the answer's numbers
@@ -17,6 +18,10 @@ code-told a e = ap (λ n. n .code) e
 pub all-told : (a : Answer) {n : Five} → n ≡ five a → Tells a (n .code ∷ n .x ∷ n .y ∷ n .count ∷ n .visits ∷ []) (n .code)
 unfolding numbers
 all-told a e = record { code = code-told a e; array = rw e }
+
+-- law: a code, and four zeros beside it, where a change ends with that code
+pub code-alone : (k : ℕ) → Tells (ended k) (k ∷ 0 ∷ 0 ∷ 0 ∷ 0 ∷ []) k
+code-alone k = all-told (ended k) (sym (ended-numbers k))
 
 module _ {a : Answer} where
   pub tells : {w : Answer} {told : List ℕ} {r : ℕ} → a ≡ w → Tells a told r → Tells w told r

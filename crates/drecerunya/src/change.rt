@@ -9,7 +9,7 @@ ghost use Rattle.drecerunya.specs.Told.{LeavesTold};
 pub extern "C" fn drecerunya_insert(pool: &mut [u32], x: u32, y: u32, answer: &mut [u32; 5]) -> u32
     ensures { λ r. ⌜ LeavesTold (insertion (now (pool .entry)) (record { x = x; y = y })) (now (pool .exit)) (now (answer .exit)) r ⌝ }
 {
-    tell::tell(pool::insert(pool, x, y), answer)
+    tell::tell_code(pool::insert_code(pool, x, y), answer)
 }
 
 // Takes the pair [x, y] out.
@@ -17,7 +17,7 @@ pub extern "C" fn drecerunya_insert(pool: &mut [u32], x: u32, y: u32, answer: &m
 pub extern "C" fn drecerunya_delete(pool: &mut [u32], x: u32, y: u32, answer: &mut [u32; 5]) -> u32
     ensures { λ r. ⌜ LeavesTold (deletion (now (pool .entry)) (record { x = x; y = y })) (now (pool .exit)) (now (answer .exit)) r ⌝ }
 {
-    tell::tell(pool::delete(pool, x, y), answer)
+    tell::tell_code(pool::delete_code(pool, x, y), answer)
 }
 
 // Opens a strip: its pair is stored.

@@ -1,6 +1,7 @@
 // An answer as numbers.
 use rule::Answer;
 ghost use mathlib.Core.Path.{_≡_};
+ghost use Rattle.rule.specs.Answer.{ended};
 ghost use Rattle.drecerunya.specs.Told.{codeOf, Tells};
 
 // The code of an answer.
@@ -18,4 +19,12 @@ pub fn tell(a: Answer, answer: &mut [u32; 5]) -> u32
     let n = a.numbers();
     *answer = [n.code, n.x, n.y, n.count, n.visits];
     n.code
+}
+
+// Writes the numbers of a change's answer, which is its code alone, and gives the code.
+pub fn tell_code(code: u32, answer: &mut [u32; 5]) -> u32
+    ensures { λ r. ⌜ Tells (ended code) (now (answer .exit)) r ⌝ }
+{
+    *answer = [code, 0, 0, 0, 0];
+    code
 }

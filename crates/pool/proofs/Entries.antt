@@ -5,9 +5,8 @@ use mathlib.Core.Bool.{Bool, true, false}
 use mathlib.Core.List.{List, [], _∷_}
 use native.Mathlib.Omega.{arith}
 use borrow.Author.Tests.{eq-eqb}
-use Rattle.rule.specs.declared.Answer.{Answer}
 use Rattle.rule.specs.declared.Pair.{Pair}
-use Rattle.rule.specs.Answer.{finished, refused}
+use Rattle.rule.specs.Answer.{ended}
 use Rattle.rule.specs.Cells.{freeOf, stored}
 use Rattle.rule.specs.Codes as codes
 use Rattle.rule.specs.Laid.{inserted}
@@ -30,74 +29,76 @@ use Rattle.pool.proofs.Views.{has-mem, insertion-made, deletion-made}
 
 -- insert
 module _ (c : List ℕ) (p : Pair) where
-  pub insert-odd : {h : Health} {r : Answer} → h ≡ healthOf c → h ≡ WrongLength → r ≡ refused codes.wrongLength → Leaves (insertion c p) c r
-  unfolding insertion
-  insert-odd e t er = left-odd c e _ c _ t er
+  pub insert-odd : {h : Health} → h ≡ healthOf c → h ≡ WrongLength → Leaves (insertion c p) c (ended codes.wrongLength)
+  unfolding insertion ended
+  insert-odd e t = left-odd c e _ c _ t refl
 
-  pub insert-ill : {h : Health} {r : Answer} → h ≡ healthOf c → h ≡ Unsound → r ≡ refused codes.unsound → Leaves (insertion c p) c r
-  unfolding insertion
-  insert-ill e t er = left-ill c e _ c _ t er
+  pub insert-ill : {h : Health} → h ≡ healthOf c → h ≡ Unsound → Leaves (insertion c p) c (ended codes.unsound)
+  unfolding insertion ended
+  insert-ill e t = left-ill c e _ c _ t refl
 
   module _ (s : Sound c) (b : Bool) (eb : b ≡ hasX (p .x) (stored c)) where
-    pub insert-taken : {r : Answer} → b ≡ true → r ≡ refused codes.taken → Leaves (insertion c p) c r
-    unfolding insertion
-    insert-taken t er = rw (left-well s (takenLine c p ∷ fullLine c ∷ []) c) (left-refused (takenLine c p) (fullLine c ∷ []) c _ (sym eb ∙ t) er)
+    pub insert-taken : b ≡ true → Leaves (insertion c p) c (ended codes.taken)
+    unfolding insertion ended
+    insert-taken t = rw (left-well s (takenLine c p ∷ fullLine c ∷ []) c) (left-refused (takenLine c p) (fullLine c ∷ []) c _ (sym eb ∙ t) refl)
 
     module _ (f : b ≡ false) (free : ℕ) (ef : free ≡ freeOf c) where
-      pub insert-full : {r : Answer} → free ≡ 0 → r ≡ refused codes.full → Leaves (insertion c p) c r
-      unfolding insertion
-      insert-full z er =
+      pub insert-full : free ≡ 0 → Leaves (insertion c p) c (ended codes.full)
+      unfolding insertion ended
+      insert-full z =
           rw (left-well s (takenLine c p ∷ fullLine c ∷ []) c, left-passed (takenLine c p) (fullLine c ∷ []) c _ (sym eb ∙ f))
-          (left-refused (fullLine c) [] c _ (eq-eqb (freeOf c) 0 (sym ef ∙ z)) er)
+          (left-refused (fullLine c) [] c _ (eq-eqb (freeOf c) 0 (sym ef ∙ z)) refl)
 
       pub insert-enters : (free ≡ 0 → ⊥) → Enters c p
       insert-enters ne = enters s p (sym eb ∙ f) (λ z. ne (ef ∙ z))
 
-      pub insert-done : {d : List ℕ} {r : Answer} → (free ≡ 0 → ⊥) → d ≡ inserted c p → r ≡ finished → Leaves (insertion c p) d r
-      insert-done ne ed er = rw (insertion-made c p (insert-enters ne)) (record { cells = ed; answer = er })
+      pub insert-done : {d : List ℕ} → (free ≡ 0 → ⊥) → d ≡ inserted c p → Leaves (insertion c p) d (ended codes.done)
+      unfolding ended
+      insert-done ne ed = rw (insertion-made c p (insert-enters ne)) (record { cells = ed; answer = refl })
 
 -- delete
 module _ (c : List ℕ) (p : Pair) where
-  pub delete-odd : {h : Health} {r : Answer} → h ≡ healthOf c → h ≡ WrongLength → r ≡ refused codes.wrongLength → Leaves (deletion c p) c r
-  unfolding deletion
-  delete-odd e t er = left-odd c e _ c _ t er
+  pub delete-odd : {h : Health} → h ≡ healthOf c → h ≡ WrongLength → Leaves (deletion c p) c (ended codes.wrongLength)
+  unfolding deletion ended
+  delete-odd e t = left-odd c e _ c _ t refl
 
-  pub delete-ill : {h : Health} {r : Answer} → h ≡ healthOf c → h ≡ Unsound → r ≡ refused codes.unsound → Leaves (deletion c p) c r
-  unfolding deletion
-  delete-ill e t er = left-ill c e _ c _ t er
+  pub delete-ill : {h : Health} → h ≡ healthOf c → h ≡ Unsound → Leaves (deletion c p) c (ended codes.unsound)
+  unfolding deletion ended
+  delete-ill e t = left-ill c e _ c _ t refl
 
   module _ (s : Sound c) where
-    pub delete-missing : {m : Removal} {d : List ℕ} {r : Answer} → Deletes c p m d → m ≡ Missing → r ≡ refused codes.missing → Leaves (deletion c p) d r
-    unfolding deletion leftBy
-    delete-missing (missing f) t er = rw (true-pool c (s .pool), sound-test c s, f) (record { cells = refl; answer = er })
-    delete-missing (other f g) t er = absurd (apart t)
+    pub delete-missing : {m : Removal} {d : List ℕ} → Deletes c p m d → m ≡ Missing → Leaves (deletion c p) d (ended codes.missing)
+    unfolding deletion leftBy ended
+    delete-missing (missing f) t = rw (true-pool c (s .pool), sound-test c s, f) (record { cells = refl; answer = refl })
+    delete-missing (other f g) t = absurd (apart t)
       where
         apart : Other ≡ Missing → ⊥
         apart e = let z : _≡_ {A = ℕ} 0 1 = cc in omega arith
-    delete-missing (done g) t er = absurd (apart t)
+    delete-missing (done g) t = absurd (apart t)
       where
         apart : Done ≡ Missing → ⊥
         apart e = let z : _≡_ {A = ℕ} 0 1 = cc in omega arith
 
-    pub delete-other : {m : Removal} {d : List ℕ} {r : Answer} → Deletes c p m d → m ≡ Other → r ≡ refused codes.other → Leaves (deletion c p) d r
-    unfolding deletion leftBy
-    delete-other (missing f) t er = absurd (apart t)
+    pub delete-other : {m : Removal} {d : List ℕ} → Deletes c p m d → m ≡ Other → Leaves (deletion c p) d (ended codes.other)
+    unfolding deletion leftBy ended
+    delete-other (missing f) t = absurd (apart t)
       where
         apart : Missing ≡ Other → ⊥
         apart e = let z : _≡_ {A = ℕ} 0 1 = cc in omega arith
-    delete-other (other f g) t er = rw (true-pool c (s .pool), sound-test c s, f, g) (record { cells = refl; answer = er })
-    delete-other (done g) t er = absurd (apart t)
+    delete-other (other f g) t = rw (true-pool c (s .pool), sound-test c s, f, g) (record { cells = refl; answer = refl })
+    delete-other (done g) t = absurd (apart t)
       where
         apart : Done ≡ Other → ⊥
         apart e = let z : _≡_ {A = ℕ} 0 1 = cc in omega arith
 
-    pub delete-done : {m : Removal} {d : List ℕ} {r : Answer} → Deletes c p m d → m ≡ Done → r ≡ finished → Leaves (deletion c p) d r
-    delete-done (missing f) t er = absurd (apart t)
+    pub delete-done : {m : Removal} {d : List ℕ} → Deletes c p m d → m ≡ Done → Leaves (deletion c p) d (ended codes.done)
+    unfolding ended
+    delete-done (missing f) t = absurd (apart t)
       where
         apart : Missing ≡ Done → ⊥
         apart e = let z : _≡_ {A = ℕ} 0 1 = cc in omega arith
-    delete-done (other f g) t er = absurd (apart t)
+    delete-done (other f g) t = absurd (apart t)
       where
         apart : Other ≡ Done → ⊥
         apart e = let z : _≡_ {A = ℕ} 0 1 = cc in omega arith
-    delete-done (done g) t er = rw (deletion-made c p (record { sound = s; member = has-mem s p g })) (record { cells = refl; answer = er })
+    delete-done (done g) t = rw (deletion-made c p (record { sound = s; member = has-mem s p g })) (record { cells = refl; answer = refl })

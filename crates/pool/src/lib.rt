@@ -12,7 +12,9 @@ pub use ask::largest_x;
 pub use ask::smallest_x;
 pub use ask::smallest_y;
 pub use change::delete;
+pub use change::delete_code;
 pub use change::insert;
+pub use change::insert_code;
 pub use list::listing;
 
 // Lays out a pool with nothing stored, whatever its cells held.

@@ -1,13 +1,14 @@
 -- The five numbers of each case of an answer, as 01's table of codes has them.
-use Prim.Native.Nat.{ℕ, _≤_}
+use Prim.Native.Nat.{ℕ, zero, suc, _≤_}
 use mathlib.Core.Path.{_≡_, refl}
 use mathlib.Core.Bool.{Bool, true, false}
 use native.Mathlib.Omega.{arith}
+use borrow.Author.Tests.{ne-eqb}
 use Rattle.rule.specs.declared.Pair.{Pair}
 use Rattle.rule.specs.declared.Outcome.{Outcome}
 use Rattle.rule.specs.declared.Outcome.the-variants.{Found, Nothing, Listed, Refused}
 use Rattle.rule.specs.declared.Answer.{Answer}
-use Rattle.rule.specs.Answer.{numbersOf, five, finished, refused}
+use Rattle.rule.specs.Answer.{numbersOf, five, finished, refused, ended}
 
 -- law: a found pair
 pub found-numbers : (p : Pair) (v : ℕ) → five (record { outcome = Found p; visits = v }) ≡ record { code = 0; x = p .x; y = p .y; count = 0; visits = v }
@@ -38,6 +39,12 @@ done-numbers = refl
 pub refused-numbers : (k : ℕ) → five (refused k) ≡ record { code = k; x = 0; y = 0; count = 0; visits = 0 }
 unfolding five numbersOf
 refused-numbers k = refl
+
+-- law: what ends with a code has no number beside it
+pub ended-numbers : (k : ℕ) → five (ended k) ≡ record { code = k; x = 0; y = 0; count = 0; visits = 0 }
+unfolding ended five numbersOf
+ended-numbers zero = refl
+ended-numbers (suc k) = rw (ne-eqb (suc k) 0 (λ e. omega arith))
 
 visits-at-most : (o : Outcome) (v : ℕ) → numbersOf o v .visits ≤ v
 unfolding numbersOf

@@ -1,6 +1,7 @@
 -- The five numbers of an answer, for each of its cases.
 use Prim.Native.Nat.{ℕ}
-use mathlib.Core.Bool.{true, false}
+use mathlib.Core.Bool.{true, false, cond}
+use lib.Dec.{eqb}
 use Rattle.rule.specs.declared.Outcome.{Outcome}
 use Rattle.rule.specs.declared.Outcome.the-variants.{Found, Nothing, Listed, Refused}
 use Rattle.rule.specs.declared.Answer.{Answer}
@@ -26,3 +27,7 @@ finished = record { outcome = Listed 0 false; visits = 0 }
 -- a call that is refused
 abbrev pub refused : ℕ → Answer
 refused code = record { outcome = Refused code; visits = 0 }
+
+-- a change that ends with this code: it is done, or refused
+unfoldable pub ended : ℕ → Answer
+ended code = cond (eqb code codes.done) finished (refused code)

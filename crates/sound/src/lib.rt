@@ -6,7 +6,7 @@ use rule::codes;
 use tree::Checked;
 ghost use mathlib.Core.Path.{_≡_};
 ghost use Prim.Native.Nat.{_+_, _*_, _-_, _<_};
-ghost use Rattle.rule.specs.Answer.{finished, refused};
+ghost use Rattle.rule.specs.Answer.{finished, refused, ended};
 ghost use Rattle.rule.specs.Cells.{slotsOf, fresh};
 ghost use Rattle.rule.specs.Refusals.{Leaves};
 ghost use Rattle.rule.specs.Sound.{Pool};
@@ -34,6 +34,16 @@ pub fn refused(code: u32) -> Answer
         outcome: Outcome::Refused(code),
         visits: 0,
     }
+}
+
+// The answer of a change that ends with a code.
+pub fn ended(code: u32) -> Answer
+    ensures { λ r. ⌜ r ≡ ended code ⌝ }
+{
+    if code == codes::DONE {
+        return finished();
+    }
+    refused(code)
 }
 
 // The most slots that a pool has.

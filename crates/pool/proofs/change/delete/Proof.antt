@@ -1,39 +1,10 @@
--- The verdict on the pool decides.
-use Rattle.sound.proofs.Lines.{health-sound}
-use Rattle.pool.proofs.Entries.{delete-odd, delete-ill}
+-- The answer is that of the code.
 use borrow.Author.Needs.{needs}
 use Rattle.pool.proofs.change.delete.Statement.{statement}
 use Rattle.pool.proofs.change.delete.Tie as tie
 
-delete-sound-requires : tie.Need-delete-sound-requires
-delete-sound-requires c κs =
-    let p1 = c .before in let p3 = p1 .before .before in
-    health-sound _ (p3 .health-of .ensures) (p1 .enum-told .given .1)
-
-returns-2 : tie.Need-returns-2
-returns-2 c =
-    let p1 = c .before in let p3 = p1 .before .before in
-    delete-ill _ _ (p3 .health-of .ensures) (p1 .enum-told2 .given .1) (c .refused .ensures)
-
-returns-3 : tie.Need-returns-3
-returns-3 c =
-    let p1 = c .before in let p3 = p1 .before .before in
-    delete-odd _ _ (p3 .health-of .ensures) (p1 .enum-told3 .given .1) (c .refused2 .ensures)
+returns : tie.Need-returns
+returns c = rw (c .ended .ensures) (c .before .before .before .delete-code .ensures)
 
 pub delete-spec : {M : Type 1} → statement M
-delete-spec =
-    tie.close
-    (tie.spec
-    (λ c κs. search needs)
-    (λ c. search needs)
-    delete-sound-requires
-    (λ c. search needs)
-    (λ c κs. search needs)
-    (λ c. search needs)
-    (λ c κs. search needs)
-    (λ c. search needs)
-    (λ c. search needs)
-    (λ c. search needs)
-    returns-2
-    (λ c. search needs)
-    returns-3)
+delete-spec = tie.close (tie.spec (λ c κs. search needs) (λ c κs. search needs) (λ c. search needs) returns)

@@ -6,18 +6,18 @@ use Rattle.pool.proofs.change.delete_sound.Tie as tie
 
 returns : tie.Need-returns
 returns c =
-    let p1 = c .before in let p5 = p1 .before .before .before .before in let p8 = p5 .before .before .before in
-    delete-done _ _ (p8 .pre) (p5 .delete .ensures) (p1 .enum-told .given .1) (c .finished .ensures)
+    let p4 = c .before .before .before .before in let p7 = p4 .before .before .before in
+    delete-done _ _ (p7 .pre) (p4 .delete .ensures) (c .enum-told .given .1)
 
 returns-2 : tie.Need-returns-2
 returns-2 c =
-    let p1 = c .before in let p5 = p1 .before .before .before .before in let p8 = p5 .before .before .before in
-    delete-missing _ _ (p8 .pre) (p5 .delete .ensures) (p1 .enum-told2 .given .1) (c .refused .ensures)
+    let p4 = c .before .before .before .before in let p7 = p4 .before .before .before in
+    delete-missing _ _ (p7 .pre) (p4 .delete .ensures) (c .enum-told2 .given .1)
 
 returns-3 : tie.Need-returns-3
 returns-3 c =
-    let p1 = c .before in let p5 = p1 .before .before .before .before in let p8 = p5 .before .before .before in
-    delete-other _ _ (p8 .pre) (p5 .delete .ensures) (p1 .enum-told3 .given .1) (c .refused2 .ensures)
+    let p4 = c .before .before .before .before in let p7 = p4 .before .before .before in
+    delete-other _ _ (p7 .pre) (p4 .delete .ensures) (c .enum-told3 .given .1)
 
 pub delete-sound-spec : {M : Type 1} → statement M
 delete-sound-spec =
@@ -25,11 +25,8 @@ delete-sound-spec =
     (tie.spec
     (λ c κs. search needs)
     (λ c. search needs)
-    (λ c κs. search needs)
     (λ c. search needs)
-    (λ c κs. search needs)
     (λ c. search needs)
-    (λ c κs. search needs)
     (λ c. search needs)
     returns
     (λ c. search needs)
