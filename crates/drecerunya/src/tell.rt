@@ -8,8 +8,7 @@ ghost use Rattle.drecerunya.specs.Told.{codeOf, Tells};
 pub fn code_of(a: Answer) -> u32
     ensures { λ r. ⌜ r ≡ codeOf a ⌝ }
 {
-    let n = a.numbers();
-    n.code
+    a.numbers().code
 }
 
 // Writes an answer's numbers, and gives its code.
