@@ -10,17 +10,20 @@ pub struct Cut {
 }
 
 impl Cut {
+    pub const ROOT_LOWER: u32 = 0;
+
     pub const ROOT_HALF: u32 = 2147483648;
 
     pub fn root() -> Cut
         ensures { λ r. ⌜ r ≡ rootCut ⌝ }
     {
         Cut {
-            lower: 0,
+            lower: Cut::ROOT_LOWER,
             half: Cut::ROOT_HALF,
         }
     }
 
+    // The lower end and half of the width: a sum of 32 bits, at the root too.
     pub fn middle(self) -> u32
         requires { ⌜ MiddleFits self ⌝ }
         ensures { λ r. ⌜ r ≡ middle (stripeBy self) ⌝ }
