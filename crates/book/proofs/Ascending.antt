@@ -7,12 +7,11 @@ use native.Mathlib.Omega.{arith}
 use lib.Dec.{ltb, leb}
 use lib.ListN.{length}
 use borrow.Author.Tests.{ltb-true, ltb-false, le-leb, leb-true, leb-false}
-use Rattle.rule.specs.declared.Pair.{Pair}
-use Rattle.rule.specs.Plain.{those, Alike}
-use Rattle.rule.specs.Tree.{Differs, Apart}
-use Rattle.rule.proofs.Tests.{on}
-use Rattle.rule.proofs.Members.{apart-same}
-use Rattle.rule.proofs.Those.{those-mem, those-apart}
+use Rattle.kinds.specs.declared.Pair.{Pair}
+use Rattle.plain.specs.Plain.{those, Alike, Differs, Apart}
+use Rattle.kinds.proofs.Tests.{on}
+use Rattle.plain.proofs.Apart.{apart-same}
+use Rattle.plain.proofs.Those.{those-mem, those-apart}
 use Rattle.book.specs.Book.{place, byX, Rises}
 
 place-mem : (p q : Pair) (ps : List Pair) → List·Memᴰ q (place p ps) ↔ ((q ≡ p) ⊎ List·Memᴰ q ps)

@@ -4,9 +4,9 @@ use mathlib.Core.Path.{_≡_, refl, sym, _∙_}
 use mathlib.Core.List.{List, [], _∷_, _++_}
 use native.Mathlib.Omega.{arith}
 use lib.ListN.{length, set, drop}
-use Rattle.rule.specs.declared.Pair.{Pair}
-use Rattle.rule.specs.Placed.{placed}
-use Rattle.rule.proofs.Placing.{placed-append, placed-start}
+use Rattle.kinds.specs.declared.Pair.{Pair}
+use Rattle.kinds.specs.Placed.{placed}
+use Rattle.kinds.proofs.Placing.{placed-append, placed-start}
 use Rattle.book.specs.Book.{word, byX, body, bytesFor, bookOf}
 use Rattle.book.specs.Writing.{headBytes, headerOf}
 use Rattle.book.proofs.Ascending.{length-byX}

@@ -5,16 +5,16 @@ use mathlib.Core.List.{List, [], _∷_}
 use native.Mathlib.Omega.{arith}
 use lib.ListN.{length}
 use borrow.Author.Tests.{lt-ltb, le-ltb}
-use Rattle.rule.specs.declared.Answer.{Answer}
-use Rattle.rule.specs.Answer.{finished, refused}
-use Rattle.rule.specs.Cells.{countOf, stored}
-use Rattle.rule.specs.Codes as codes
-use Rattle.rule.specs.Placed.{placed}
-use Rattle.rule.specs.Refusals.{Leaves}
-use Rattle.rule.specs.Sound.{Sound}
-use Rattle.rule.proofs.Placing.{length-placed}
-use Rattle.rule.proofs.Stored.{stored-count}
-use Rattle.rule.proofs.Tables.{left-refused, left-passed, left-none}
+use Rattle.kinds.specs.declared.Answer.{Answer}
+use Rattle.kinds.specs.Answer.{finished, refused}
+use Rattle.pools.specs.Cells.{countOf, stored}
+use Rattle.kinds.specs.Codes as codes
+use Rattle.kinds.specs.Placed.{placed}
+use Rattle.kinds.specs.Refusals.{Leaves}
+use Rattle.pools.specs.Sound.{Sound}
+use Rattle.kinds.proofs.Placing.{length-placed}
+use Rattle.pools.proofs.Stored.{stored-count}
+use Rattle.kinds.proofs.Tables.{left-refused, left-passed, left-none}
 use Rattle.sound.proofs.Lines.{left-well}
 use Rattle.book.specs.Book.{byX, body, bytesFor}
 use Rattle.book.specs.Promises.{shortLine, saved}

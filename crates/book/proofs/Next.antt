@@ -10,21 +10,21 @@ use mir.Val.{Fits}
 use lib.Dec.{leb}
 use lib.ListN.{length, getD}
 use borrow.Author.Tests.{ltb-false, le-leb, lt-leb, leb-true, leb-false}
-use Rattle.rule.specs.declared.Finding.the-variants.{Found, Nothing}
-use Rattle.rule.specs.declared.Pair.{Pair}
-use Rattle.rule.specs.declared.Walked.{Walked}
-use Rattle.rule.specs.Cells.{perSlot, isFree, rootOf, storedFrom, stored, treeAt}
-use Rattle.rule.specs.Placed.{placed}
-use Rattle.rule.specs.Plain.{limits, matches, smaller, smallestXOf, Closest}
-use Rattle.rule.specs.Sound.{Sound, allLevels}
-use Rattle.rule.specs.Stripe.{rootStripe}
-use Rattle.rule.specs.Walks.{smallestX}
-use Rattle.rule.proofs.AnyOrder.{smallestX-any}
-use Rattle.rule.proofs.Decided.{sound-well, sound-tree}
-use Rattle.rule.proofs.Placing.{length-placed}
-use Rattle.rule.proofs.Scan.{smallestXOf-found, smallestXOf-nothing}
-use Rattle.rule.proofs.Stored.{stored-mem, stored-apart}
-use Rattle.rule.proofs.Tests.{on, clash, both, and-true}
+use Rattle.kinds.specs.declared.Finding.the-variants.{Found, Nothing}
+use Rattle.kinds.specs.declared.Pair.{Pair}
+use Rattle.kinds.specs.declared.Walked.{Walked}
+use Rattle.pools.specs.Cells.{perSlot, isFree, rootOf, storedFrom, stored, treeAt}
+use Rattle.kinds.specs.Placed.{placed}
+use Rattle.plain.specs.Plain.{limits, matches, smaller, smallestXOf, Closest}
+use Rattle.pools.specs.Sound.{Sound}
+use Rattle.kinds.specs.Stripe.{allLevels, rootStripe}
+use Rattle.walks.specs.Walks.{smallestX}
+use Rattle.walks.proofs.AnyOrder.{smallestX-any}
+use Rattle.pools.proofs.Decided.{sound-well, sound-tree}
+use Rattle.kinds.proofs.Placing.{length-placed}
+use Rattle.plain.proofs.Scan.{smallestXOf-found, smallestXOf-nothing}
+use Rattle.pools.proofs.Stored.{stored-mem, stored-apart}
+use Rattle.kinds.proofs.Tests.{on, clash, both, and-true}
 use Rattle.book.specs.Book.{word, byX, body, bytesFor}
 use Rattle.book.specs.Writing.{headBytes}
 use Rattle.book.proofs.Ascending.{atLeast, byX-first, byX-all, length-byX}

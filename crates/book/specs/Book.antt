@@ -4,7 +4,7 @@ use mathlib.Core.Bool.{cond}
 use mathlib.Core.List.{List, [], _∷_, _++_, List·Memᴰ}
 use lib.Dec.{ltb}
 use lib.ListN.{length}
-use Rattle.rule.specs.declared.Pair.{Pair}
+use Rattle.kinds.specs.declared.Pair.{Pair}
 
 -- a number as four bytes, the highest first
 abbrev pub word : ℕ → List ℕ

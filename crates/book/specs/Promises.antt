@@ -3,10 +3,10 @@ use Prim.Native.Nat.{ℕ}
 use mathlib.Core.List.{List, [], _∷_, _++_}
 use lib.Dec.{ltb}
 use lib.ListN.{length, drop}
-use Rattle.rule.specs.Answer.{finished}
-use Rattle.rule.specs.Cells.{stored}
-use Rattle.rule.specs.Codes as codes
-use Rattle.rule.specs.Refusals.{Line, Left, leftBy}
+use Rattle.kinds.specs.Answer.{finished}
+use Rattle.pools.specs.Cells.{stored}
+use Rattle.kinds.specs.Codes as codes
+use Rattle.kinds.specs.Refusals.{Line, Left, leftBy}
 use Rattle.sound.specs.Promises.{lengthLine, soundLine}
 use Rattle.book.specs.Book.{bytesFor, bookOf}
 

@@ -1,17 +1,17 @@
 // Writing the stored book.
-use rule::Answer;
-use rule::Finding;
-use rule::Pair;
-use rule::codes;
+use kinds::Answer;
+use kinds::Finding;
+use kinds::Pair;
+use kinds::codes;
 use sound::Health;
 ghost use mathlib.Core.Path.{_≡_};
 ghost use mathlib.Core.List.{_++_};
 ghost use Prim.Native.Nat.{_+_, _*_, _≤_, _<_};
 ghost use lib.ListN.{length};
-ghost use Rattle.rule.specs.Cells.{stored};
-ghost use Rattle.rule.specs.Placed.{placed};
-ghost use Rattle.rule.specs.Refusals.{Leaves};
-ghost use Rattle.rule.specs.Sound.{Sound};
+ghost use Rattle.pools.specs.Cells.{stored};
+ghost use Rattle.kinds.specs.Placed.{placed};
+ghost use Rattle.kinds.specs.Refusals.{Leaves};
+ghost use Rattle.pools.specs.Sound.{Sound};
 ghost use Rattle.book.specs.Book.{word, body, byX, bytesFor};
 ghost use Rattle.book.specs.Promises.{saved};
 ghost use Rattle.book.specs.Writing.{headBytes, headerOf};

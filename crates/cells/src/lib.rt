@@ -1,8 +1,8 @@
 // The cells of a pool, by name. Each slot, and the header, has PER_SLOT of them.
-use rule::Pair;
+use kinds::Pair;
 ghost use mathlib.Core.Path.{_≡_};
 ghost use lib.ListN.{set};
-ghost use Rattle.rule.specs.Cells.{Fits, markOf, rootOf, freeOf, countOf, pairAt, leftAt, rightAt, sonAt, linkCell, putPair, putLinks, putFree, putHeader};
+ghost use Rattle.pools.specs.Cells.{Fits, markOf, rootOf, freeOf, countOf, pairAt, leftAt, rightAt, sonAt, linkCell, putPair, putLinks, putFree, putHeader};
 
 pub const PER_SLOT: usize = 4;
 

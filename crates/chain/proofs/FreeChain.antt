@@ -7,11 +7,11 @@ use native.Mathlib.Omega.{arith}
 use lib.Dec.{leb, eqb}
 use lib.ListN.{length}
 use borrow.Author.Tests.{eq-eqb, ne-eqb, le-leb, lt-leb, leb-true}
-use Rattle.rule.specs.declared.Pair.{Pair}
-use Rattle.rule.specs.Cells.{perSlot, slotsOf, freeOf, countOf, Fits, pairAt, leftAt, rightAt, freeMark, isFree}
-use Rattle.rule.specs.Test.{freeFine, chainFine}
-use Rattle.rule.proofs.Tests.{all-three, and-false}
-use Rattle.rule.proofs.Leads.{back}
+use Rattle.kinds.specs.declared.Pair.{Pair}
+use Rattle.pools.specs.Cells.{perSlot, slotsOf, freeOf, countOf, Fits, pairAt, leftAt, rightAt, freeMark, isFree}
+use Rattle.pools.specs.Test.{freeFine, chainFine}
+use Rattle.kinds.proofs.Tests.{all-three, and-false}
+use Rattle.pools.proofs.Leads.{back}
 use Rattle.chain.specs.declared.Verdict.{Verdict}
 use Rattle.chain.specs.declared.Verdict.the-variants.{Sound, Faulty}
 use Rattle.chain.specs.Judged.{verdict, restVerdict}

@@ -3,8 +3,8 @@ use Prim.Native.Nat.{ℕ, _-_}
 use mathlib.Core.Bool.{Bool, cond, _&&_}
 use mathlib.Core.List.{List}
 use lib.Dec.{leb, eqb}
-use Rattle.rule.specs.Cells.{slotsOf, freeOf, countOf}
-use Rattle.rule.specs.Test.{chainFine}
+use Rattle.pools.specs.Cells.{slotsOf, freeOf, countOf}
+use Rattle.pools.specs.Test.{chainFine}
 use Rattle.chain.specs.declared.Verdict.{Verdict}
 use Rattle.chain.specs.declared.Verdict.the-variants.{Sound, Faulty as Unsound}
 

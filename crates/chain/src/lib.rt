@@ -1,7 +1,7 @@
 // The free chain's part of the check.
 ghost use mathlib.Core.Path.{_≡_};
-ghost use Rattle.rule.specs.Sound.{Pool};
-ghost use Rattle.rule.specs.Test.{freeFine, chainFine};
+ghost use Rattle.pools.specs.Sound.{Pool};
+ghost use Rattle.pools.specs.Test.{freeFine, chainFine};
 ghost use Rattle.chain.specs.Judged.{verdict, restVerdict};
 
 pub enum Verdict {

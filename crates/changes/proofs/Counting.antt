@@ -5,14 +5,14 @@ use mathlib.Core.List.{List}
 use native.Mathlib.Omega.{arith}
 use lib.ListN.{set, length-set}
 use lib.Seq.{getD-set-same, getD-set-other}
-use Rattle.rule.specs.declared.Pair.{Pair}
-use Rattle.rule.specs.Tree.{Tree}
-use Rattle.rule.specs.Cells.{freeOf}
-use Rattle.rule.specs.Sound.{Sound}
-use Rattle.rule.proofs.Order.{pair-ext}
-use Rattle.rule.proofs.Standing.{Stands}
-use Rattle.rule.proofs.Agreement.{agree-then, header-fits, leads-frame, leads-slot}
-use Rattle.rule.proofs.Changed.{Changed}
+use Rattle.kinds.specs.declared.Pair.{Pair}
+use Rattle.trees.specs.Tree.{Tree}
+use Rattle.pools.specs.Cells.{freeOf}
+use Rattle.pools.specs.Sound.{Sound}
+use Rattle.kinds.proofs.Order.{pair-ext}
+use Rattle.trees.proofs.Standing.{Stands}
+use Rattle.pools.proofs.Agreement.{agree-then, header-fits, leads-frame, leads-slot}
+use Rattle.pools.proofs.Changed.{Changed}
 use Rattle.changes.specs.Places.{Replaced}
 use Rattle.changes.proofs.Links.{agree-cells, cell-agree}
 

@@ -7,9 +7,9 @@ use mathlib.Core.List.{List}
 use native.Mathlib.Omega.{arith}
 use lib.ListN.{length, getD, set}
 use lib.Seq.{getD-set-other}
-use Rattle.rule.specs.Cells.{perSlot, Fits, sonAt, linkCell}
-use Rattle.rule.proofs.Order.{pair-ext}
-use Rattle.rule.proofs.Agreement.{Agree, agree-cell}
+use Rattle.pools.specs.Cells.{perSlot, Fits, sonAt, linkCell}
+use Rattle.kinds.proofs.Order.{pair-ext}
+use Rattle.pools.proofs.Agreement.{Agree, agree-cell}
 
 -- the cell of a link, and what it holds
 pub link-slot : (s : ℕ) (left : Bool) → linkCell s left / perSlot ≡ s

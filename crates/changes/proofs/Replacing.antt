@@ -6,13 +6,13 @@ use mathlib.Core.Bool.{Bool, true, false, not}
 use mathlib.Core.List.{List}
 use native.Mathlib.Omega.{arith}
 use lib.ListN.{length, getD}
-use Rattle.rule.specs.declared.Pair.{Pair}
-use Rattle.rule.specs.Tree.{Tree}
-use Rattle.rule.specs.Cells.{perSlot, Fits, pairAt, linkCell, putPair}
-use Rattle.rule.specs.Sound.{Leads}
-use Rattle.rule.proofs.Order.{pair-ext}
-use Rattle.rule.proofs.Standing.{Stands}
-use Rattle.rule.proofs.Agreement.{Agree, same-slot, slot-fits, leads-frame, leads-slot, leads-top, Wrote, pair-wrote, pair-read, pair-left, pair-right}
+use Rattle.kinds.specs.declared.Pair.{Pair}
+use Rattle.trees.specs.Tree.{Tree}
+use Rattle.pools.specs.Cells.{perSlot, Fits, pairAt, linkCell, putPair}
+use Rattle.pools.specs.Sound.{Leads}
+use Rattle.kinds.proofs.Order.{pair-ext}
+use Rattle.trees.proofs.Standing.{Stands}
+use Rattle.pools.proofs.Agreement.{Agree, same-slot, slot-fits, leads-frame, leads-slot, leads-top, Wrote, pair-wrote, pair-read, pair-left, pair-right}
 use Rattle.changes.specs.Places.{Replaced}
 use Rattle.changes.proofs.Links.{link-slot, link-low, link-inside, link-other, agree-cells, agree-get}
 use Rattle.changes.proofs.Sides.{Seen, outside, Held, seen-leads}

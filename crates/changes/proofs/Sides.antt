@@ -5,12 +5,12 @@ use mathlib.Core.Logic.{_≢_}
 use mathlib.Core.Bool.{Bool, true, false, not}
 use mathlib.Core.List.{List}
 use lib.ListN.{getD}
-use Rattle.rule.specs.declared.Pair.{Pair}
-use Rattle.rule.specs.Tree.{Tree, fork}
-use Rattle.rule.specs.Cells.{perSlot, pairAt, linkCell}
-use Rattle.rule.specs.Sound.{Slot, Leads}
-use Rattle.rule.proofs.Standing.{Stands, at-top, at-left, at-right, Distinct, Distinct-fork}
-use Rattle.rule.proofs.Agreement.{slot-as, leads-reads}
+use Rattle.kinds.specs.declared.Pair.{Pair}
+use Rattle.trees.specs.Tree.{Tree, fork}
+use Rattle.pools.specs.Cells.{perSlot, pairAt, linkCell}
+use Rattle.pools.specs.Sound.{Slot, Leads}
+use Rattle.trees.proofs.Standing.{Stands, at-top, at-left, at-right, Distinct, Distinct-fork}
+use Rattle.pools.proofs.Agreement.{slot-as, leads-reads}
 
 -- a tree that is the slot s with p, the near tree u on the side given, and the far tree v
 pub data Seen (s : ℕ) (p : Pair) (u v : Tree Pair) : Bool → Tree Pair → Type 0 where

@@ -4,12 +4,12 @@ use mathlib.Core.Path.{_≡_}
 use mathlib.Core.Logic.{_≢_}
 use mathlib.Core.List.{List}
 use lib.ListN.{length, getD}
-use Rattle.rule.specs.declared.Pair.{Pair}
-use Rattle.rule.specs.Tree.{Tree}
-use Rattle.rule.specs.Cells.{perSlot}
-use Rattle.rule.specs.Laid.{top}
-use Rattle.rule.specs.Sound.{Leads}
-use Rattle.rule.proofs.Standing.{Stands}
+use Rattle.kinds.specs.declared.Pair.{Pair}
+use Rattle.trees.specs.Tree.{Tree}
+use Rattle.pools.specs.Cells.{perSlot}
+use Rattle.pools.specs.Laid.{top}
+use Rattle.pools.specs.Sound.{Leads}
+use Rattle.trees.proofs.Standing.{Stands}
 
 -- in d the place whose link is in a cell holds the tree t; every other cell is as in c, but for the first free slot's and those of the slots of `wide`
 pub record Replaced (c : List ℕ) (cell : ℕ) (t wide : Tree Pair) (d : List ℕ) : Type 0 where

@@ -1,5 +1,5 @@
 // A call with its numbers, and what the plain list wants of it.
-use rule::Five;
+use kinds::Five;
 
 // The kinds of call, in the order of their counts. A change that stores stands before the one that takes it back.
 pub const SET_UP: u32 = 0;

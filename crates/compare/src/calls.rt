@@ -1,7 +1,7 @@
 // The product's calls by their kind.
 use crate::call;
 use crate::call::Call;
-use rule::Answer;
+use kinds::Answer;
 
 // Set up, insert, delete, open or close.
 pub fn change(cells: &mut [u32], asked: Call) -> Answer {

@@ -3,7 +3,7 @@ use crate::call;
 use crate::call::Seen;
 use crate::desk;
 use crate::plain;
-use rule::Five;
+use kinds::Five;
 ghost use Prim.Native.Nat.{_<_};
 
 // What the bytes hold before the book is written.

@@ -9,7 +9,7 @@ use crate::desk;
 use crate::plain;
 use crate::saved;
 use crate::tally;
-use rule::Five;
+use kinds::Five;
 
 // What the cells for a listing hold before it.
 const UNWRITTEN: u32 = 2779096485;

@@ -3,7 +3,7 @@ use crate::call;
 use crate::call::Call;
 use crate::call::Want;
 use crate::desk;
-use rule::Five;
+use kinds::Five;
 
 const STDOUT: i32 = 1;
 

@@ -9,20 +9,20 @@ use lib.Dec.{ltb}
 use lib.ListN.{length, getD, set, length-set}
 use lib.Seq.{getD-set-same, getD-set-other, set-getD}
 use borrow.Author.Tests.{lt-ltb, le-ltb}
-use Rattle.rule.specs.declared.Pair.{Pair}
-use Rattle.rule.specs.Pairs.{beats}
-use Rattle.rule.specs.Stripe.{Stripe, In, middle, leftPart, rightPart, partOf, stripeAt}
-use Rattle.rule.specs.Tree.{Tree, none, fork, Within, Well}
-use Rattle.rule.specs.Changes.{goDown}
-use Rattle.rule.specs.Cells.{perSlot, Fits, freeOf, pairAt, rightAt, putPair, putLinks, linkCell, treeAt}
-use Rattle.rule.specs.Sound.{Leads, nowhere, slot, itself}
-use Rattle.rule.proofs.Tests.{on}
-use Rattle.rule.proofs.Order.{true-beats, false-beats}
-use Rattle.rule.proofs.Heights.{in-at, same-at, part-of}
-use Rattle.rule.proofs.GoDown.{Sorted, swap, keep, Down, put, go-left, go-right, down-value}
-use Rattle.rule.proofs.Leads.{back, leads-tree, leads-fits}
-use Rattle.rule.proofs.Standing.{Stands, at-top, down-stands}
-use Rattle.rule.proofs.Agreement.{Holds, holds-agree, same-slot, slot-as, slot-fits, Reads, leads-reads, leads-top, putSlot, slot-wrote, slot-read}
+use Rattle.kinds.specs.declared.Pair.{Pair}
+use Rattle.kinds.specs.Pairs.{beats}
+use Rattle.kinds.specs.Stripe.{Stripe, In, middle, leftPart, rightPart, partOf, stripeAt}
+use Rattle.trees.specs.Tree.{Tree, none, fork, Within, Well, itself}
+use Rattle.trees.specs.Changes.{goDown}
+use Rattle.pools.specs.Cells.{perSlot, Fits, freeOf, pairAt, rightAt, putPair, putLinks, linkCell, treeAt}
+use Rattle.pools.specs.Sound.{Leads, nowhere, slot}
+use Rattle.kinds.proofs.Tests.{on}
+use Rattle.kinds.proofs.Order.{true-beats, false-beats}
+use Rattle.kinds.proofs.Heights.{in-at, same-at, part-of}
+use Rattle.trees.proofs.GoDown.{Sorted, swap, keep, Down, put, go-left, go-right, down-value}
+use Rattle.pools.proofs.Leads.{back, leads-tree, leads-fits}
+use Rattle.trees.proofs.Standing.{Stands, at-top, down-stands}
+use Rattle.pools.proofs.Agreement.{Holds, holds-agree, same-slot, slot-as, slot-fits, Reads, leads-reads, leads-top, putSlot, slot-wrote, slot-read}
 use Rattle.changes.specs.Places.{Replaced}
 use Rattle.changes.proofs.Links.{link-slot, agree-cells, agree-get}
 use Rattle.changes.proofs.Sides.{Seen, from-left, from-right, Outside, outside, Held, held}

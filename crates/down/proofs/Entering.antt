@@ -8,28 +8,28 @@ use native.Mathlib.Numerals.{add-one}
 use native.Mathlib.Omega.{arith}
 use lib.Dec.{ltb}
 use lib.ListN.{getD, set}
-use Rattle.rule.specs.declared.Pair.{Pair}
-use Rattle.rule.specs.Plain.{hasX}
-use Rattle.rule.specs.Pairs.{beats}
-use Rattle.rule.specs.Stripe.{Stripe, In, rootStripe, middle, partOf, stripeAt}
-use Rattle.rule.specs.Tree.{Well}
-use Rattle.rule.specs.Changes.{met}
-use Rattle.rule.specs.Cells.{rootOf, freeOf, countOf, pairAt, sonAt, linkCell, stored, treeAt}
-use Rattle.rule.specs.Sound.{Sound, lowLevels, allLevels, itself}
-use Rattle.rule.specs.Laid.{inserted}
-use Rattle.rule.proofs.Tests.{on, clash}
-use Rattle.rule.proofs.Stripes.{low-root}
-use Rattle.rule.proofs.Trees.{all-map, all-mem, New}
-use Rattle.rule.proofs.Heights.{one-at, root-at, part-of}
-use Rattle.rule.proofs.Leads.{back, tree-fork}
-use Rattle.rule.proofs.Levels.{root-levels}
-use Rattle.rule.proofs.Halving.{mem-met, new-unmet}
-use Rattle.rule.proofs.Having.{hasX-true, true-hasX}
-use Rattle.rule.proofs.Decided.{sound-well, sound-tree}
-use Rattle.rule.proofs.Agreement.{leads-slot, header-fits}
-use Rattle.rule.proofs.Slots.{sound-distinct, tree-slot}
-use Rattle.rule.proofs.Stored.{stored-mem}
-use Rattle.rule.proofs.Inserted.{grown, taken-first, taken-out, grown-down, grown-well, inserted-one}
+use Rattle.kinds.specs.declared.Pair.{Pair}
+use Rattle.plain.specs.Plain.{hasX}
+use Rattle.kinds.specs.Pairs.{beats}
+use Rattle.kinds.specs.Stripe.{Stripe, In, rootStripe, middle, partOf, stripeAt, lowLevels, allLevels}
+use Rattle.trees.specs.Tree.{Well, itself}
+use Rattle.trees.specs.Changes.{met}
+use Rattle.pools.specs.Cells.{rootOf, freeOf, countOf, pairAt, sonAt, linkCell, stored, treeAt}
+use Rattle.pools.specs.Sound.{Sound}
+use Rattle.pools.specs.Laid.{inserted}
+use Rattle.kinds.proofs.Tests.{on, clash}
+use Rattle.kinds.proofs.Stripes.{low-root}
+use Rattle.trees.proofs.Trees.{all-map, all-mem, New}
+use Rattle.kinds.proofs.Heights.{one-at, root-at, part-of}
+use Rattle.pools.proofs.Leads.{back, tree-fork}
+use Rattle.trees.proofs.Levels.{root-levels}
+use Rattle.trees.proofs.Halving.{mem-met, new-unmet}
+use Rattle.plain.proofs.Having.{hasX-true, true-hasX}
+use Rattle.pools.proofs.Decided.{sound-well, sound-tree}
+use Rattle.pools.proofs.Agreement.{leads-slot, header-fits}
+use Rattle.pools.proofs.Slots.{sound-distinct, tree-slot}
+use Rattle.pools.proofs.Stored.{stored-mem}
+use Rattle.pools.proofs.Inserted.{grown, taken-first, taken-out, grown-down, grown-well, inserted-one}
 use Rattle.halving.specs.Sought.{Sought}
 use Rattle.halving.proofs.Searching.{there, sought-on, goes-on as met-on}
 use Rattle.changes.specs.Places.{Replaced}

@@ -5,18 +5,18 @@ use mathlib.Core.Logic.{_≢_}
 use mathlib.Core.Bool.{cond}
 use mathlib.Core.List.{List}
 use lib.ListN.{length, getD, set}
-use Rattle.rule.specs.declared.Pair.{Pair}
-use Rattle.rule.specs.Pairs.{beats}
-use Rattle.rule.specs.Plain.{hasX}
-use Rattle.rule.specs.Stripe.{Stripe, stripeAt}
-use Rattle.rule.specs.Tree.{Tree, Within, Well}
-use Rattle.rule.specs.Changes.{met, goDown}
-use Rattle.rule.specs.Cells.{perSlot, freeOf, countOf, pairAt, rightAt, putPair, putLinks, treeAt, stored}
-use Rattle.rule.specs.Laid.{inserted}
-use Rattle.rule.specs.Sound.{Sound, Slot, Leads, itself, lowLevels}
-use Rattle.rule.proofs.GoDown.{Down}
-use Rattle.rule.proofs.Standing.{Stands, Distinct}
-use Rattle.rule.proofs.Trees.{New}
+use Rattle.kinds.specs.declared.Pair.{Pair}
+use Rattle.kinds.specs.Pairs.{beats}
+use Rattle.plain.specs.Plain.{hasX}
+use Rattle.kinds.specs.Stripe.{Stripe, stripeAt, lowLevels}
+use Rattle.trees.specs.Tree.{Tree, Within, Well, itself}
+use Rattle.trees.specs.Changes.{met, goDown}
+use Rattle.pools.specs.Cells.{perSlot, freeOf, countOf, pairAt, rightAt, putPair, putLinks, treeAt, stored}
+use Rattle.pools.specs.Laid.{inserted}
+use Rattle.pools.specs.Sound.{Sound, Slot, Leads}
+use Rattle.trees.proofs.GoDown.{Down}
+use Rattle.trees.proofs.Standing.{Stands, Distinct}
+use Rattle.trees.proofs.Trees.{New}
 use Rattle.halving.specs.Sought.{Sought}
 use Rattle.changes.specs.Places.{Replaced}
 

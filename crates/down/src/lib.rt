@@ -1,13 +1,13 @@
 // Insertion: a pair goes down in a sound pool.
-use rule::Pair;
-use rule::Stripe;
+use kinds::Pair;
+use kinds::Stripe;
 ghost use mathlib.Core.Path.{_≡_};
 ghost use Prim.Native.Nat.{suc, _≤_};
-ghost use Rattle.rule.specs.Cells.{Fits, stored};
-ghost use Rattle.rule.specs.Laid.{inserted};
-ghost use Rattle.rule.specs.Plain.{hasX};
-ghost use Rattle.rule.specs.Sound.{Sound};
-ghost use Rattle.rule.specs.Stripe.{stripeAt};
+ghost use Rattle.pools.specs.Cells.{Fits, stored};
+ghost use Rattle.pools.specs.Laid.{inserted};
+ghost use Rattle.plain.specs.Plain.{hasX};
+ghost use Rattle.pools.specs.Sound.{Sound};
+ghost use Rattle.kinds.specs.Stripe.{stripeAt};
 ghost use Rattle.down.specs.Down.{Enters, Going, Carried, Settled, Room, Reached, taken};
 
 // Where a pair meets a slot's, the better one stays there, and the beaten one goes on.

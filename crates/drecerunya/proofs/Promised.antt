@@ -2,9 +2,9 @@
 use Prim.Native.Nat.{ℕ}
 use mathlib.Core.Path.{_≡_}
 use mathlib.Core.List.{List}
-use Rattle.rule.specs.declared.Answer.{Answer}
-use Rattle.rule.specs.Refusals.{Left}
-use Rattle.rule.proofs.Promised.{one-answer}
+use Rattle.kinds.specs.declared.Answer.{Answer}
+use Rattle.kinds.specs.Refusals.{Left}
+use Rattle.kinds.proofs.Promised.{one-answer}
 use Rattle.drecerunya.specs.Told.{Tells, LeavesCode, LeavesTold}
 
 pub one-told : {a : Answer} {s t : List ℕ} {q r : ℕ} → Tells a s q → Tells a t r → (s ≡ t) × (q ≡ r)

@@ -2,11 +2,11 @@
 use Prim.Native.Nat.{ℕ}
 use mathlib.Core.Path.{_≡_, ap, sym, _∙_}
 use mathlib.Core.List.{List, [], _∷_}
-use Rattle.rule.specs.declared.Answer.{Answer}
-use Rattle.rule.specs.declared.Five.{Five}
-use Rattle.rule.specs.Answer.{five, ended}
-use Rattle.rule.specs.Refusals.{Left, Leaves}
-use Rattle.rule.proofs.Numbers.{ended-numbers}
+use Rattle.kinds.specs.declared.Answer.{Answer}
+use Rattle.kinds.specs.declared.Five.{Five}
+use Rattle.kinds.specs.Answer.{five, ended}
+use Rattle.kinds.specs.Refusals.{Left, Leaves}
+use Rattle.kinds.proofs.Numbers.{ended-numbers}
 use Rattle.drecerunya.specs.Told.{codeOf, numbers, Tells, LeavesCode, LeavesTold}
 
 -- law: the code of the answer's numbers

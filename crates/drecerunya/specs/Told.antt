@@ -2,9 +2,9 @@
 use Prim.Native.Nat.{ℕ}
 use mathlib.Core.Path.{_≡_}
 use mathlib.Core.List.{List, [], _∷_}
-use Rattle.rule.specs.declared.Answer.{Answer}
-use Rattle.rule.specs.Answer.{five}
-use Rattle.rule.specs.Refusals.{Left}
+use Rattle.kinds.specs.declared.Answer.{Answer}
+use Rattle.kinds.specs.Answer.{five}
+use Rattle.kinds.specs.Refusals.{Left}
 
 -- the code of an answer
 unfoldable pub codeOf : Answer → ℕ

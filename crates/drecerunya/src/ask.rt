@@ -1,6 +1,6 @@
 // The questions that are answered by one pair.
 use super::tell;
-ghost use Rattle.rule.specs.Plain.{limits};
+ghost use Rattle.plain.specs.Plain.{limits};
 ghost use Rattle.pool.specs.Asking.{smallestXAnswer, largestXAnswer, smallestYAnswer};
 ghost use Rattle.strips.specs.Promises.{firstToEnd, lastToEnd, earliestStart};
 ghost use Rattle.drecerunya.specs.Told.{Tells};

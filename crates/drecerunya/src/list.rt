@@ -1,6 +1,6 @@
 // The lists, into a second lent slice.
 use super::tell;
-ghost use Rattle.rule.specs.Plain.{limits};
+ghost use Rattle.plain.specs.Plain.{limits};
 ghost use Rattle.pool.specs.Asking.{listingLeft};
 ghost use Rattle.strips.specs.Promises.{listCovers, listMeets, listContains};
 ghost use Rattle.drecerunya.specs.Told.{LeavesTold};

@@ -1,7 +1,7 @@
 // An answer as numbers.
-use rule::Answer;
+use kinds::Answer;
 ghost use mathlib.Core.Path.{_≡_};
-ghost use Rattle.rule.specs.Answer.{ended};
+ghost use Rattle.kinds.specs.Answer.{ended};
 ghost use Rattle.drecerunya.specs.Told.{codeOf, Tells};
 
 // The code of an answer.

@@ -5,12 +5,13 @@ use mathlib.Core.Bool.{Bool, true, false, cond}
 use mathlib.Core.List.{List}
 use lib.Dec.{ltb}
 use borrow.Author.Tests.{eq-eqb, ne-eqb}
-use Rattle.rule.specs.Stripe.{Stripe, middle, leftPart, rightPart, partOf}
-use Rattle.rule.specs.Changes.{met}
-use Rattle.rule.specs.Cells.{Fits, pairAt, leftAt, rightAt, sonAt, treeAt}
-use Rattle.rule.specs.Sound.{itself, Leads}
-use Rattle.rule.proofs.Stripes.{low-part}
-use Rattle.rule.proofs.Leads.{back, tree-none, tree-fork, leads-deep, leads-fits, leads-son}
+use Rattle.kinds.specs.Stripe.{Stripe, middle, leftPart, rightPart, partOf}
+use Rattle.trees.specs.Changes.{met}
+use Rattle.pools.specs.Cells.{Fits, pairAt, leftAt, rightAt, sonAt, treeAt}
+use Rattle.trees.specs.Tree.{itself}
+use Rattle.pools.specs.Sound.{Leads}
+use Rattle.kinds.proofs.Stripes.{low-part}
+use Rattle.pools.proofs.Leads.{back, tree-none, tree-fork, leads-deep, leads-fits, leads-son}
 use Rattle.halving.specs.Sought.{Sought}
 
 module _ (c : List ℕ) (k s : ℕ) (at : Stripe) (x : ℕ) where

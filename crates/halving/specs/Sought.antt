@@ -1,9 +1,9 @@
 -- What a search may rely on.
 use Prim.Native.Nat.{ℕ}
 use mathlib.Core.List.{List}
-use Rattle.rule.specs.Cells.{treeAt}
-use Rattle.rule.specs.Sound.{Leads}
-use Rattle.rule.specs.Stripe.{Stripe, Low}
+use Rattle.pools.specs.Cells.{treeAt}
+use Rattle.pools.specs.Sound.{Leads}
+use Rattle.kinds.specs.Stripe.{Stripe, Low}
 
 -- the link s leads to the tree that is read so many levels down, in a stripe whose ends can be added
 pub record Sought (c : List ℕ) (k s : ℕ) (at : Stripe) : Type 0 where

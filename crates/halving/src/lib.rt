@@ -1,10 +1,10 @@
 // The search for x in a tree, by halving the stripe.
-use rule::Stripe;
+use kinds::Stripe;
 ghost use mathlib.Core.Path.{_≡_};
-ghost use Rattle.rule.specs.Changes.{met};
-ghost use Rattle.rule.specs.Cells.{treeAt};
-ghost use Rattle.rule.specs.Shape.{stripeOf};
-ghost use Rattle.rule.specs.Sound.{itself};
+ghost use Rattle.trees.specs.Changes.{met};
+ghost use Rattle.pools.specs.Cells.{treeAt};
+ghost use Rattle.kinds.specs.Shape.{stripeOf};
+ghost use Rattle.trees.specs.Tree.{itself};
 ghost use Rattle.halving.specs.Sought.{Sought};
 
 // Whether x is met from a place down, looked for by halving the stripe.

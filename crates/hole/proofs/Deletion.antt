@@ -5,24 +5,25 @@ use mathlib.Core.Logic.{_≢_}
 use mathlib.Core.List.{List}
 use native.Mathlib.Omega.{arith}
 use lib.ListN.{set}
-use Rattle.rule.specs.declared.Pair.{Pair}
-use Rattle.rule.specs.Plain.{hasX, has}
-use Rattle.rule.specs.Stripe.{Stripe, rootStripe}
-use Rattle.rule.specs.Tree.{Tree, members, size, Mem, here, in-left, in-right}
-use Rattle.rule.specs.Changes.{takeOut}
-use Rattle.rule.specs.Cells.{freeOf, countOf, freeMark, stored}
-use Rattle.rule.specs.Sound.{itself, Sound, lowLevels, allLevels}
-use Rattle.rule.proofs.Tests.{on}
-use Rattle.rule.proofs.Members.{members-mem, apart-same}
-use Rattle.rule.proofs.Having.{hasX-true, true-hasX, has-true, true-has}
-use Rattle.rule.proofs.Stripes.{low-root}
-use Rattle.rule.proofs.Standing.{Stands}
-use Rattle.rule.proofs.Decided.{sound-well, sound-tree}
-use Rattle.rule.proofs.Agreement.{Holds, holds-agree, header-fits}
-use Rattle.rule.proofs.Slots.{sound-distinct, tree-slot}
-use Rattle.rule.proofs.Stored.{stored-mem}
-use Rattle.rule.proofs.Changed.{Changed}
-use Rattle.rule.proofs.Deleted.{cut, given-slot, deleted-one}
+use Rattle.kinds.specs.declared.Pair.{Pair}
+use Rattle.plain.specs.Plain.{hasX, has}
+use Rattle.kinds.specs.Stripe.{Stripe, rootStripe, lowLevels, allLevels}
+use Rattle.trees.specs.Tree.{Tree, members, size, Mem, here, in-left, in-right, itself}
+use Rattle.trees.specs.Changes.{takeOut}
+use Rattle.pools.specs.Cells.{freeOf, countOf, freeMark, stored}
+use Rattle.pools.specs.Sound.{Sound}
+use Rattle.kinds.proofs.Tests.{on}
+use Rattle.trees.proofs.Members.{members-mem}
+use Rattle.plain.proofs.Apart.{apart-same}
+use Rattle.plain.proofs.Having.{hasX-true, true-hasX, has-true, true-has}
+use Rattle.kinds.proofs.Stripes.{low-root}
+use Rattle.trees.proofs.Standing.{Stands}
+use Rattle.pools.proofs.Decided.{sound-well, sound-tree}
+use Rattle.pools.proofs.Agreement.{Holds, holds-agree, header-fits}
+use Rattle.pools.proofs.Slots.{sound-distinct, tree-slot}
+use Rattle.pools.proofs.Stored.{stored-mem}
+use Rattle.pools.proofs.Changed.{Changed}
+use Rattle.pools.proofs.Deleted.{cut, given-slot, deleted-one}
 use Rattle.changes.proofs.Links.{cell-agree}
 use Rattle.changes.proofs.Counting.{counted}
 use Rattle.hole.specs.declared.Removal.{Removal}

@@ -8,14 +8,14 @@ use native.Mathlib.Omega.{arith}
 use lib.Dec.{eqb}
 use lib.ListN.{getD}
 use borrow.Author.Tests.{eqb-true, eqb-false}
-use Rattle.rule.specs.declared.Pair.{Pair}
-use Rattle.rule.specs.Pairs.{beats}
-use Rattle.rule.specs.Tree.{Tree, none, fork}
-use Rattle.rule.specs.Changes.{fill}
-use Rattle.rule.specs.Cells.{Fits, pairAt, leftAt, rightAt, sonAt, linkCell, treeAt}
-use Rattle.rule.specs.Sound.{Leads, itself}
-use Rattle.rule.proofs.Tests.{on}
-use Rattle.rule.proofs.Leads.{back, tree-none, tree-fork, leads-deep, leads-fits, leads-son}
+use Rattle.kinds.specs.declared.Pair.{Pair}
+use Rattle.kinds.specs.Pairs.{beats}
+use Rattle.trees.specs.Tree.{Tree, none, fork, itself}
+use Rattle.trees.specs.Changes.{fill}
+use Rattle.pools.specs.Cells.{Fits, pairAt, leftAt, rightAt, sonAt, linkCell, treeAt}
+use Rattle.pools.specs.Sound.{Leads}
+use Rattle.kinds.proofs.Tests.{on}
+use Rattle.pools.proofs.Leads.{back, tree-none, tree-fork, leads-deep, leads-fits, leads-son}
 use Rattle.changes.proofs.Links.{link-low, link-inside, link-son}
 use Rattle.changes.proofs.Replacing.{Paired, paired-put}
 use Rattle.hole.specs.Hole.{placed, Sons, Heirs, no-sons, heir, Promotes, promoted, Releases, released, Hole, Freed}

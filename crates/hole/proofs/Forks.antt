@@ -6,14 +6,13 @@ use mathlib.Core.Bool.{Bool, true, false, not, cond}
 use mathlib.Core.List.{List}
 use lib.Dec.{ltb}
 use borrow.Author.Tests.{ne-eqb}
-use Rattle.rule.specs.declared.Pair.{Pair}
-use Rattle.rule.specs.Pairs.{beats}
-use Rattle.rule.specs.Stripe.{Stripe, In, middle, leftPart, rightPart}
-use Rattle.rule.specs.Tree.{Tree, none, fork, Mem, here, in-left, in-right, Well}
-use Rattle.rule.specs.Changes.{Cut, fill, takeOut}
-use Rattle.rule.specs.Cells.{pairAt, sonAt, treeAt}
-use Rattle.rule.specs.Sound.{itself}
-use Rattle.rule.proofs.Leads.{tree-fork}
+use Rattle.kinds.specs.declared.Pair.{Pair}
+use Rattle.kinds.specs.Pairs.{beats}
+use Rattle.kinds.specs.Stripe.{Stripe, In, middle, leftPart, rightPart}
+use Rattle.trees.specs.Tree.{Tree, none, fork, Mem, here, in-left, in-right, Well, itself}
+use Rattle.trees.specs.Changes.{Cut, fill, takeOut}
+use Rattle.pools.specs.Cells.{pairAt, sonAt, treeAt}
+use Rattle.pools.proofs.Leads.{tree-fork}
 use Rattle.changes.proofs.Sides.{Seen, from-left, from-right}
 
 pub tree-on : (c : List ℕ) (k s : ℕ) (left : Bool) → s ≢ 0

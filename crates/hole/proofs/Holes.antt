@@ -7,14 +7,14 @@ use mathlib.Core.List.{List}
 use native.Mathlib.Omega.{arith}
 use lib.ListN.{getD, set, length-set}
 use lib.Seq.{getD-set-same, getD-set-other}
-use Rattle.rule.specs.declared.Pair.{Pair}
-use Rattle.rule.specs.Tree.{Tree, none, fork}
-use Rattle.rule.specs.Changes.{Cut}
-use Rattle.rule.specs.Cells.{perSlot, freeOf, pairAt, sonAt, linkCell, putFree, treeAt}
-use Rattle.rule.specs.Sound.{nowhere}
-use Rattle.rule.proofs.Leads.{back, tree-within, leads-tree}
-use Rattle.rule.proofs.Standing.{at-top}
-use Rattle.rule.proofs.Agreement.{agree-same, slot-fits, leads-reads, holds-agree, free-wrote, free-read}
+use Rattle.kinds.specs.declared.Pair.{Pair}
+use Rattle.trees.specs.Tree.{Tree, none, fork}
+use Rattle.trees.specs.Changes.{Cut}
+use Rattle.pools.specs.Cells.{perSlot, freeOf, pairAt, sonAt, linkCell, putFree, treeAt}
+use Rattle.pools.specs.Sound.{nowhere}
+use Rattle.pools.proofs.Leads.{back, tree-within, leads-tree}
+use Rattle.trees.proofs.Standing.{at-top}
+use Rattle.pools.proofs.Agreement.{agree-same, slot-fits, leads-reads, holds-agree, free-wrote, free-read}
 use Rattle.changes.proofs.Links.{agree-get, cell-agree}
 use Rattle.changes.proofs.Sides.{Seen, Held, held}
 use Rattle.changes.proofs.Replacing.{Paired, son-inside, son-other, son-apart, son-leads, replaced-up}

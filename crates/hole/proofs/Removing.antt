@@ -9,17 +9,16 @@ use native.Mathlib.Nat.{two-pow-succ}
 use lib.Dec.{ltb}
 use lib.ListN.{getD}
 use borrow.Author.Tests.{eq-eqb, ltb-true, ltb-false}
-use Rattle.rule.specs.declared.Pair.{Pair}
-use Rattle.rule.specs.Stripe.{Stripe, In, Low, rootStripe, middle, partOf, stripeAt}
-use Rattle.rule.specs.Tree.{Tree, Mem, here}
-use Rattle.rule.specs.Changes.{fill, takeOut}
-use Rattle.rule.specs.Cells.{Fits, pairAt, sonAt, linkCell, treeAt}
-use Rattle.rule.specs.Sound.{itself, lowLevels, allLevels}
-use Rattle.rule.proofs.Order.{pair-ext}
-use Rattle.rule.proofs.Heights.{root-at, part-of}
-use Rattle.rule.proofs.Trees.{all-at, well-in}
-use Rattle.rule.proofs.Stripes.{low-part}
-use Rattle.rule.proofs.Leads.{back, tree-none, tree-fork, leads-fits}
+use Rattle.kinds.specs.declared.Pair.{Pair}
+use Rattle.kinds.specs.Stripe.{Stripe, In, Low, rootStripe, middle, partOf, stripeAt, lowLevels, allLevels}
+use Rattle.trees.specs.Tree.{Tree, Mem, here, itself}
+use Rattle.trees.specs.Changes.{fill, takeOut}
+use Rattle.pools.specs.Cells.{Fits, pairAt, sonAt, linkCell, treeAt}
+use Rattle.kinds.proofs.Order.{pair-ext}
+use Rattle.kinds.proofs.Heights.{root-at, part-of}
+use Rattle.trees.proofs.Trees.{all-at, well-in}
+use Rattle.kinds.proofs.Stripes.{low-part}
+use Rattle.pools.proofs.Leads.{back, tree-none, tree-fork, leads-fits}
 use Rattle.changes.proofs.Sides.{Seen}
 use Rattle.hole.specs.declared.Removal.{Removal}
 use Rattle.hole.specs.declared.Removal.the-variants.{Done, Missing, Other}

@@ -5,17 +5,17 @@ use mathlib.Core.Logic.{_≢_}
 use mathlib.Core.Bool.{Bool, true, false, not}
 use mathlib.Core.List.{List}
 use lib.ListN.{length, getD, set}
-use Rattle.rule.specs.declared.Pair.{Pair}
-use Rattle.rule.specs.Pairs.{beats}
-use Rattle.rule.specs.Plain.{hasX, has}
-use Rattle.rule.specs.Stripe.{Stripe, In, Low, rootStripe, stripeAt}
-use Rattle.rule.specs.Tree.{Tree, Mem, Well}
-use Rattle.rule.specs.Changes.{Cut, takeOut}
-use Rattle.rule.specs.Cells.{perSlot, Fits, freeOf, freeMark, pairAt, leftAt, rightAt, sonAt, linkCell, putPair, putFree, treeAt, stored}
-use Rattle.rule.specs.Laid.{deleted}
-use Rattle.rule.specs.Sound.{Leads, itself, lowLevels, allLevels}
-use Rattle.rule.proofs.Agreement.{Holds}
-use Rattle.rule.proofs.Standing.{Stands, Distinct}
+use Rattle.kinds.specs.declared.Pair.{Pair}
+use Rattle.kinds.specs.Pairs.{beats}
+use Rattle.plain.specs.Plain.{hasX, has}
+use Rattle.kinds.specs.Stripe.{Stripe, In, Low, rootStripe, stripeAt, lowLevels, allLevels}
+use Rattle.trees.specs.Tree.{Tree, Mem, Well, itself}
+use Rattle.trees.specs.Changes.{Cut, takeOut}
+use Rattle.pools.specs.Cells.{perSlot, Fits, freeOf, freeMark, pairAt, leftAt, rightAt, sonAt, linkCell, putPair, putFree, treeAt, stored}
+use Rattle.pools.specs.Laid.{deleted}
+use Rattle.pools.specs.Sound.{Leads}
+use Rattle.pools.proofs.Agreement.{Holds}
+use Rattle.trees.proofs.Standing.{Stands, Distinct}
 use Rattle.changes.specs.Places.{Replaced}
 use Rattle.hole.specs.declared.Removal.{Removal}
 use Rattle.hole.specs.declared.Removal.the-variants.{Done, Missing, Other}

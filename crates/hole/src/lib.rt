@@ -1,11 +1,12 @@
 // Deletion: x is looked for by halving the stripe, and the hole that its pair leaves is filled.
-use rule::Pair;
-use rule::Stripe;
+use kinds::Pair;
+use kinds::Stripe;
 ghost use mathlib.Core.Path.{_≡_};
 ghost use Prim.Native.Nat.{suc};
-ghost use Rattle.rule.specs.Changes.{fill};
-ghost use Rattle.rule.specs.Stripe.{rootStripe};
-ghost use Rattle.rule.specs.Sound.{Sound, itself, lowLevels, allLevels};
+ghost use Rattle.trees.specs.Changes.{fill};
+ghost use Rattle.kinds.specs.Stripe.{rootStripe, lowLevels, allLevels};
+ghost use Rattle.pools.specs.Sound.{Sound};
+ghost use Rattle.trees.specs.Tree.{itself};
 ghost use Rattle.hole.specs.Hole.{placed, Sons, Heirs, Promotes, promoted, Releases, released, Hole, Freed, Looking, Removed, Found, Deletes};
 
 // How a deletion ends.

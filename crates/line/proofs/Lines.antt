@@ -6,7 +6,7 @@ use native.Mathlib.Omega.{arith}
 use lib.Dec.{eqb}
 use lib.ListN.{length, getD, drop}
 use borrow.Author.Tests.{eqb-true, eq-eqb, ne-eqb, lt-ltb, le-ltb}
-use Rattle.rule.proofs.Tests.{on}
+use Rattle.kinds.proofs.Tests.{on}
 use Rattle.line.specs.declared.Asked.the-variants.{Malformed}
 use Rattle.line.specs.declared.Numbers.{Numbers}
 use Rattle.line.specs.declared.Numbers.the-variants.{Other, One, Two, Three}

@@ -9,7 +9,7 @@ use lib.ListN.{length, take, drop, length-drop}
 use lib.Seq.{take-length, take-all}
 use borrow.Author.Tests.{eqb-true, eqb-false}
 use Rattle.bytes.specs.Bytes.{indexOf, indexAfter, slice}
-use Rattle.rule.proofs.Tests.{on}
+use Rattle.kinds.proofs.Tests.{on}
 use Rattle.line.specs.declared.Number.the-variants.{Is, Not}
 use Rattle.line.specs.declared.Numbers.the-variants.{Other}
 use Rattle.line.specs.Line.{space, led, words, value, isNumber, allNumbers}

@@ -7,13 +7,13 @@ use native.Mathlib.Omega.{arith}
 use lib.Dec.{ltb, leb}
 use lib.ListN.{length, drop, length-append, length-set}
 use lib.Seq.{sets, sets-eq}
-use Rattle.rule.specs.declared.Limits.{Limits}
-use Rattle.rule.specs.declared.Pair.{Pair}
-use Rattle.rule.specs.Plain.{matches}
-use Rattle.rule.specs.Stripe.{Stripe, middle, leftPart, rightPart}
-use Rattle.rule.specs.Tree.{Tree, none, fork}
-use Rattle.rule.specs.Walks.{Listed, listed, andThen, listOwn, listing, roomOf, flat, written}
-use Rattle.rule.proofs.Tests.{on, clash}
+use Rattle.kinds.specs.declared.Limits.{Limits}
+use Rattle.kinds.specs.declared.Pair.{Pair}
+use Rattle.plain.specs.Plain.{matches}
+use Rattle.kinds.specs.Stripe.{Stripe, middle, leftPart, rightPart}
+use Rattle.trees.specs.Tree.{Tree, none, fork}
+use Rattle.walks.specs.Walks.{Listed, listed, andThen, listOwn, listing, roomOf, flat, written}
+use Rattle.kinds.proofs.Tests.{on, clash}
 use Rattle.listing.specs.Listing.{putOne, putAll, Put, Lists}
 
 -- a listing into so much room: it lists no more than that, all of it where a match found none, and each pair took a visit

@@ -5,13 +5,13 @@ use mathlib.Core.Bool.{true, false}
 use mathlib.Core.List.{List}
 use native.Mathlib.Omega.{arith}
 use lib.ListN.{length}
-use Rattle.rule.specs.declared.Limits.{Limits}
-use Rattle.rule.specs.Cells.{rootOf, treeAt}
-use Rattle.rule.specs.Plain.{limits}
-use Rattle.rule.specs.Sound.{Sound, allLevels}
-use Rattle.rule.specs.Stripe.{Stripe, rootStripe}
-use Rattle.rule.specs.Walks.{Listed, listing, roomOf}
-use Rattle.rule.proofs.Sizes.{listing-size}
+use Rattle.kinds.specs.declared.Limits.{Limits}
+use Rattle.pools.specs.Cells.{rootOf, treeAt}
+use Rattle.plain.specs.Plain.{limits}
+use Rattle.pools.specs.Sound.{Sound}
+use Rattle.kinds.specs.Stripe.{allLevels, Stripe, rootStripe}
+use Rattle.walks.specs.Walks.{Listed, listing, roomOf}
+use Rattle.walks.proofs.Sizes.{listing-size}
 use Rattle.listing.specs.declared.Listing.{Listing}
 use Rattle.questions.specs.Walking.{Asked}
 use Rattle.listing.specs.Listing.{Lists, Lent}

@@ -7,16 +7,16 @@ use native.Mathlib.Omega.{arith}
 use lib.Dec.{ltb, leb}
 use lib.ListN.{length}
 use borrow.Author.Tests.{lt-ltb, le-ltb, le-leb}
-use Rattle.rule.specs.declared.Limits.{Limits}
-use Rattle.rule.specs.declared.Pair.{Pair}
-use Rattle.rule.specs.Cells.{pairAt, leftAt, rightAt, treeAt}
-use Rattle.rule.specs.Plain.{limits, inRange, matches}
-use Rattle.rule.specs.Stripe.{Stripe, middle, leftPart, rightPart}
-use Rattle.rule.specs.Tree.{size}
-use Rattle.rule.specs.Walks.{Listed, listed, andThen, listOwn, listing, roomOf}
-use Rattle.rule.proofs.Tests.{on}
-use Rattle.rule.proofs.Leads.{back, tree-none, tree-fork}
-use Rattle.rule.proofs.Sizes.{listing-size}
+use Rattle.kinds.specs.declared.Limits.{Limits}
+use Rattle.kinds.specs.declared.Pair.{Pair}
+use Rattle.pools.specs.Cells.{pairAt, leftAt, rightAt, treeAt}
+use Rattle.plain.specs.Plain.{limits, inRange, matches}
+use Rattle.kinds.specs.Stripe.{Stripe, middle, leftPart, rightPart}
+use Rattle.trees.specs.Tree.{size}
+use Rattle.walks.specs.Walks.{Listed, listed, andThen, listOwn, listing, roomOf}
+use Rattle.kinds.proofs.Tests.{on}
+use Rattle.pools.proofs.Leads.{back, tree-none, tree-fork}
+use Rattle.walks.proofs.Sizes.{listing-size}
 use Rattle.listing.specs.Listing.{putOne, putAll, Put, Lists}
 use Rattle.questions.proofs.Finding.{not-lt}
 use Rattle.listing.proofs.Filling.{Fills, fills, fills-own, fills-ask, own-visits, same-room, still-fits, stopped, goes-on, left-over, lists-stopped, lists-then, lists-nothing}

@@ -4,8 +4,8 @@ use mathlib.Core.Path.{_≡_}
 use mathlib.Core.Bool.{cond}
 use mathlib.Core.List.{List, [], _∷_}
 use lib.ListN.{length, set}
-use Rattle.rule.specs.declared.Pair.{Pair}
-use Rattle.rule.specs.Walks.{Listed, written}
+use Rattle.kinds.specs.declared.Pair.{Pair}
+use Rattle.walks.specs.Walks.{Listed, written}
 use Rattle.listing.specs.declared.Listing.{Listing}
 
 -- a pair written at place n, two cells: x, y

@@ -1,17 +1,17 @@
 // The listing over a sound pool: the walk counts the matches met so far, which is the place of the next one.
+use kinds::Pair;
+use kinds::Stripe;
 use questions::in_range;
-use rule::Pair;
-use rule::Stripe;
 ghost use mathlib.Core.Path.{_≡_};
 ghost use mathlib.Core.Bool.{false, cond};
 ghost use mathlib.Core.List.{[]};
 ghost use Prim.Native.Nat.{suc, _-_, _≤_};
-ghost use Rattle.rule.specs.Cells.{rootOf, treeAt};
-ghost use Rattle.rule.specs.Plain.{limits, inRange};
-ghost use Rattle.rule.specs.Shape.{stripeOf};
-ghost use Rattle.rule.specs.Sound.{Sound, allLevels};
-ghost use Rattle.rule.specs.Stripe.{rootStripe};
-ghost use Rattle.rule.specs.Walks.{listed, listOwn, listing, roomOf};
+ghost use Rattle.pools.specs.Cells.{rootOf, treeAt};
+ghost use Rattle.plain.specs.Plain.{limits, inRange};
+ghost use Rattle.kinds.specs.Shape.{stripeOf};
+ghost use Rattle.pools.specs.Sound.{Sound};
+ghost use Rattle.kinds.specs.Stripe.{allLevels, rootStripe};
+ghost use Rattle.walks.specs.Walks.{listed, listOwn, listing, roomOf};
 ghost use Rattle.questions.specs.Walking.{Asked};
 ghost use Rattle.listing.specs.Listing.{Put, Lists, Lent};
 

@@ -6,20 +6,20 @@ use mathlib.Core.List.{List}
 use native.Mathlib.Omega.{arith}
 use lib.Dec.{ltb, leb, eqb}
 use borrow.Author.Tests.{eq-eqb, ne-eqb, lt-ltb, le-ltb, eqb-true, eqb-false}
-use Rattle.rule.specs.declared.Finding.the-variants.{Nothing}
-use Rattle.rule.specs.declared.Pair.{Pair}
-use Rattle.rule.specs.declared.Walked.{Walked}
-use Rattle.rule.specs.Cells.{pairAt, leftAt, rightAt, treeAt}
-use Rattle.rule.specs.Plain.{inRange}
-use Rattle.rule.specs.Sound.{Leads}
-use Rattle.rule.specs.Stripe.{Stripe, Low, middle, leftPart, rightPart}
-use Rattle.rule.specs.Tree.{none, size}
-use Rattle.rule.specs.Walks.{seen, ask, smallestY}
-use Rattle.rule.proofs.Best.{closest-nothing}
-use Rattle.rule.proofs.Tests.{on, clash}
-use Rattle.rule.proofs.Leads.{back, tree-fork, leads-deep}
-use Rattle.rule.proofs.Sizes.{smallestY-size}
-use Rattle.rule.proofs.Stripes.{low-left, low-right}
+use Rattle.kinds.specs.declared.Finding.the-variants.{Nothing}
+use Rattle.kinds.specs.declared.Pair.{Pair}
+use Rattle.kinds.specs.declared.Walked.{Walked}
+use Rattle.pools.specs.Cells.{pairAt, leftAt, rightAt, treeAt}
+use Rattle.plain.specs.Plain.{inRange}
+use Rattle.pools.specs.Sound.{Leads}
+use Rattle.kinds.specs.Stripe.{Stripe, Low, middle, leftPart, rightPart}
+use Rattle.trees.specs.Tree.{none, size}
+use Rattle.walks.specs.Walks.{seen, ask, smallestY}
+use Rattle.plain.proofs.Closest.{closest-nothing}
+use Rattle.kinds.proofs.Tests.{on, clash}
+use Rattle.pools.proofs.Leads.{back, tree-fork, leads-deep}
+use Rattle.walks.proofs.Sizes.{smallestY-size}
+use Rattle.kinds.proofs.Stripes.{low-left, low-right}
 use Rattle.questions.specs.Walking.{foundAt, Some, Asked, Made}
 use Rattle.questions.proofs.Finding.{not-lt, no-slot, found-none, found-some}
 use Rattle.questions.proofs.Places.{some, there, size-here, asked-left, asked-right}

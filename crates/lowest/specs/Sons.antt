@@ -4,14 +4,14 @@ use mathlib.Core.Path.{_≡_}
 use mathlib.Core.Bool.{Bool, false, cond}
 use mathlib.Core.List.{List}
 use lib.Dec.{eqb, ltb}
-use Rattle.rule.specs.declared.Pair.{Pair}
-use Rattle.rule.specs.declared.Walked.{Walked}
-use Rattle.rule.specs.Cells.{treeAt}
-use Rattle.rule.specs.Plain.{closest}
-use Rattle.rule.specs.Sound.{Leads}
-use Rattle.rule.specs.Stripe.{Stripe, Low}
-use Rattle.rule.specs.Tree.{size}
-use Rattle.rule.specs.Walks.{seen}
+use Rattle.kinds.specs.declared.Pair.{Pair}
+use Rattle.kinds.specs.declared.Walked.{Walked}
+use Rattle.pools.specs.Cells.{treeAt}
+use Rattle.plain.specs.Plain.{closest}
+use Rattle.pools.specs.Sound.{Leads}
+use Rattle.kinds.specs.Stripe.{Stripe, Low}
+use Rattle.trees.specs.Tree.{size}
+use Rattle.walks.specs.Walks.{seen}
 use Rattle.questions.specs.Walking.{foundAt, Some}
 
 -- a son is asked if it is there and lies on a side that is asked

@@ -1,17 +1,17 @@
 // Smallest y over a sound pool.
+use kinds::Finding;
+use kinds::Stripe;
+use kinds::Walked;
 use questions::found_at;
 use questions::in_range;
-use rule::Finding;
-use rule::Stripe;
-use rule::Walked;
 ghost use mathlib.Core.Path.{_≡_};
 ghost use Prim.Native.Nat.{suc, _≤_};
 ghost use lib.Dec.{ltb, leb};
-ghost use Rattle.rule.specs.Cells.{rootOf, treeAt};
-ghost use Rattle.rule.specs.Shape.{stripeOf};
-ghost use Rattle.rule.specs.Sound.{Sound, allLevels};
-ghost use Rattle.rule.specs.Stripe.{rootStripe, middle, leftPart, rightPart};
-ghost use Rattle.rule.specs.Walks.{smallestY, ask};
+ghost use Rattle.pools.specs.Cells.{rootOf, treeAt};
+ghost use Rattle.kinds.specs.Shape.{stripeOf};
+ghost use Rattle.pools.specs.Sound.{Sound};
+ghost use Rattle.kinds.specs.Stripe.{allLevels, rootStripe, middle, leftPart, rightPart};
+ghost use Rattle.walks.specs.Walks.{smallestY, ask};
 ghost use Rattle.questions.specs.Walking.{Some, Asked, Made};
 ghost use Rattle.lowest.specs.Sons.{Lower, asks, lowerOf, Asked-sons};
 

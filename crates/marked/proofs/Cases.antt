@@ -6,18 +6,18 @@ use mathlib.Core.List.{List}
 use lib.Dec.{leb, eqb}
 use lib.ListN.{length}
 use borrow.Author.Tests.{eqb-true, eqb-false, leb-true, leb-false}
-use Rattle.rule.specs.Answer.{five, numbersOf}
-use Rattle.rule.specs.Cells.{isFree, storedFrom, treeAt, freeSlots, fresh}
-use Rattle.rule.specs.Changes.{goDown, fill, takeOut, met}
-use Rattle.rule.specs.Laid.{lay, inserted, deleted}
-use Rattle.rule.specs.Pairs.{beats}
-use Rattle.rule.specs.Plain.{smallestXOf, largestXOf, smallestYOf, hasX, has}
-use Rattle.rule.specs.Refusals.{answerBy, leftBy}
-use Rattle.rule.specs.Stripe as stripe
-use Rattle.rule.specs.Test.{isPool, slotFine, alone, fine, below, rootFine, freeFine, chainFine, restFine, isSound}
-use Rattle.rule.specs.Walks.{smallestX, largestX, smallestY, listing}
-use Rattle.rule.proofs.Decided.{pool-true}
-use Rattle.rule.proofs.Tests.{on}
+use Rattle.kinds.specs.Answer.{five, numbersOf}
+use Rattle.pools.specs.Cells.{isFree, storedFrom, treeAt, freeSlots, fresh}
+use Rattle.trees.specs.Changes.{goDown, fill, takeOut, met}
+use Rattle.pools.specs.Laid.{lay, inserted, deleted}
+use Rattle.kinds.specs.Pairs.{beats}
+use Rattle.plain.specs.Plain.{smallestXOf, largestXOf, smallestYOf, hasX, has}
+use Rattle.kinds.specs.Refusals.{answerBy, leftBy}
+use Rattle.kinds.specs.Stripe as stripe
+use Rattle.pools.specs.Test.{isPool, slotFine, alone, fine, below, rootFine, freeFine, chainFine, restFine, isSound}
+use Rattle.walks.specs.Walks.{smallestX, largestX, smallestY, listing}
+use Rattle.pools.proofs.Decided.{pool-true}
+use Rattle.kinds.proofs.Tests.{on}
 use Rattle.sound.specs.Promises.{lengthLine, setUp}
 use Rattle.sound.proofs.Lengths.{odd, short, long}
 use Rattle.sound.proofs.Meaning as meaning

@@ -8,21 +8,20 @@ use native.Mathlib.Omega.{arith}
 use lib.Dec.{ltb, leb}
 use lib.ListN.{take}
 use borrow.Author.Tests.{leb-true, le-leb, le-ltb, eq-eqb}
-use Rattle.rule.specs.declared.Outcome.the-variants.{Found as found-pair, Nothing as no-pair, Listed}
-use Rattle.rule.specs.declared.Limits.{Limits}
-use Rattle.rule.specs.declared.Pair.{Pair}
-use Rattle.rule.specs.Answer.{five}
-use Rattle.rule.specs.Cells.{stored}
-use Rattle.rule.specs.Pairs.{beats}
-use Rattle.rule.specs.Plain.{inRange, matches, limits}
-use Rattle.rule.specs.Sound.{Sound}
-use Rattle.rule.specs.Tree.{Apart}
-use Rattle.rule.specs.Walks.{roomOf, written}
-use Rattle.rule.proofs.Best.{by-beats}
-use Rattle.rule.proofs.Members.{apart-same}
-use Rattle.rule.proofs.Scan.{smallestXOf-found, largestXOf-found, smallestYOf-found, smallestXOf-nothing, largestXOf-nothing, smallestYOf-nothing}
-use Rattle.rule.proofs.Stored.{stored-apart}
-use Rattle.rule.proofs.Tests.{on, both, and-true}
+use Rattle.kinds.specs.declared.Outcome.the-variants.{Found as found-pair, Nothing as no-pair, Listed}
+use Rattle.kinds.specs.declared.Limits.{Limits}
+use Rattle.kinds.specs.declared.Pair.{Pair}
+use Rattle.kinds.specs.Answer.{five}
+use Rattle.pools.specs.Cells.{stored}
+use Rattle.kinds.specs.Pairs.{beats}
+use Rattle.plain.specs.Plain.{inRange, matches, limits, Apart}
+use Rattle.pools.specs.Sound.{Sound}
+use Rattle.walks.specs.Walks.{roomOf, written}
+use Rattle.plain.proofs.Closest.{by-beats}
+use Rattle.plain.proofs.Apart.{apart-same}
+use Rattle.plain.proofs.Scan.{smallestXOf-found, largestXOf-found, smallestYOf-found, smallestXOf-nothing, largestXOf-nothing, smallestYOf-nothing}
+use Rattle.pools.proofs.Stored.{stored-apart}
+use Rattle.kinds.proofs.Tests.{on, both, and-true}
 use Rattle.pool.specs.Asking.{smallestXAnswer, largestXAnswer, smallestYAnswer, listingLeft}
 use Rattle.pool.specs.Changing.{insertion, deletion}
 use Rattle.pool.specs.Showing.{Shows}

@@ -3,14 +3,14 @@ use Prim.Native.Nat.{ℕ, _+_, _*_}
 use mathlib.Core.Path.{_≡_, refl}
 use mathlib.Core.Bool.{true, false}
 use mathlib.Core.List.{List, [], _∷_}
-use Rattle.rule.specs.declared.Answer.{Answer}
-use Rattle.rule.specs.declared.Finding.{Finding}
-use Rattle.rule.specs.declared.Finding.the-variants.{Found, Nothing}
-use Rattle.rule.specs.Plain.{smallestXOf, largestXOf, smallestYOf}
-use Rattle.rule.specs.Answer.{refused}
-use Rattle.rule.specs.Cells.{stored}
-use Rattle.rule.specs.Refusals.{Line, answerBy, Left, leftBy}
-use Rattle.rule.proofs.Tests.{on}
+use Rattle.kinds.specs.declared.Answer.{Answer}
+use Rattle.kinds.specs.declared.Finding.{Finding}
+use Rattle.kinds.specs.declared.Finding.the-variants.{Found, Nothing}
+use Rattle.plain.specs.Plain.{smallestXOf, largestXOf, smallestYOf}
+use Rattle.kinds.specs.Answer.{refused}
+use Rattle.pools.specs.Cells.{stored}
+use Rattle.kinds.specs.Refusals.{Line, answerBy, Left, leftBy}
+use Rattle.kinds.proofs.Tests.{on}
 use Rattle.sound.specs.Promises.{setUp, checked}
 use Rattle.pool.specs.Asking.{outcomeOf, smallestXAnswer, largestXAnswer, smallestYAnswer, listingLeft}
 use Rattle.pool.specs.Changing.{insertion, deletion}

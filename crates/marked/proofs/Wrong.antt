@@ -4,13 +4,13 @@ use mathlib.Core.Path.{_≡_, refl, _∙_}
 use mathlib.Core.Logic.{inl, inr}
 use mathlib.Core.Bool.{true, false}
 use mathlib.Core.List.{List, [], _∷_}
-use Rattle.rule.specs.declared.Answer.{Answer}
-use Rattle.rule.specs.declared.Outcome.{Outcome}
-use Rattle.rule.specs.declared.Outcome.the-variants.{Found, Nothing, Listed, Refused}
-use Rattle.rule.specs.Answer.{five, numbersOf}
-use Rattle.rule.specs.Refusals.{Line, Left, Leaves}
-use Rattle.rule.proofs.Promised.{one-answer}
-use Rattle.rule.proofs.Tests.{on, clash}
+use Rattle.kinds.specs.declared.Answer.{Answer}
+use Rattle.kinds.specs.declared.Outcome.{Outcome}
+use Rattle.kinds.specs.declared.Outcome.the-variants.{Found, Nothing, Listed, Refused}
+use Rattle.kinds.specs.Answer.{five, numbersOf}
+use Rattle.kinds.specs.Refusals.{Line, Left, Leaves}
+use Rattle.kinds.proofs.Promised.{one-answer}
+use Rattle.kinds.proofs.Tests.{on, clash}
 use Rattle.runs.specs.Calls.{Call, Result, changes, asks, writes, promised, lentBy, Each}
 use Rattle.runs.specs.Playing.{play, Book, playAll, plainlyAll, SmallX, Same, Agrees}
 use Rattle.runs.proofs.Played.{plays-all}

@@ -3,10 +3,10 @@ use Prim.Native.Nat.{ℕ, _+_, _*_}
 use mathlib.Core.Path.{_≡_}
 use mathlib.Core.List.{List, [], _∷_}
 use lib.ListN.{length, replicate}
-use Rattle.rule.specs.declared.Five.{Five}
-use Rattle.rule.specs.Answer.{five}
-use Rattle.rule.specs.Cells.{rootOf, freeOf, pairAt, leftAt, rightAt, freeMark}
-use Rattle.rule.specs.Plain.{limits}
+use Rattle.kinds.specs.declared.Five.{Five}
+use Rattle.kinds.specs.Answer.{five}
+use Rattle.pools.specs.Cells.{rootOf, freeOf, pairAt, leftAt, rightAt, freeMark}
+use Rattle.plain.specs.Plain.{limits}
 use Rattle.strips.specs.Strips.{numberOf}
 use Rattle.runs.specs.Calls.{Call, set-up, check, insert, delete, smallest-x, largest-x, smallest-y, list, opens, closes, first, covers, Result, promised, lentBy}
 

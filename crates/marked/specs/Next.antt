@@ -3,10 +3,10 @@ use Prim.Native.Nat.{ℕ, _≤_}
 use mathlib.Core.Path.{_≡_}
 use mathlib.Core.Bool.{false}
 use mathlib.Core.List.{List, [], _∷_}
-use Rattle.rule.specs.declared.Outcome.the-variants.{Found, Nothing, Listed}
-use Rattle.rule.specs.declared.Pair.{Pair}
-use Rattle.rule.specs.Plain.{limits}
-use Rattle.rule.specs.Walks.{roomOf, written}
+use Rattle.kinds.specs.declared.Outcome.the-variants.{Found, Nothing, Listed}
+use Rattle.kinds.specs.declared.Pair.{Pair}
+use Rattle.plain.specs.Plain.{limits}
+use Rattle.walks.specs.Walks.{roomOf, written}
 use Rattle.runs.specs.Calls as calls
 use Rattle.marked.specs.Wrong.{Program}
 

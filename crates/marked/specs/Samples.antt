@@ -5,9 +5,9 @@ use mathlib.Core.Logic.{_≢_}
 use mathlib.Core.Bool.{true, false}
 use mathlib.Core.List.{List, [], _∷_}
 use lib.ListN.{replicate}
-use Rattle.rule.specs.Answer.{five}
-use Rattle.rule.specs.Cells.{freeMark}
-use Rattle.rule.specs.Plain.{limits}
+use Rattle.kinds.specs.Answer.{five}
+use Rattle.pools.specs.Cells.{freeMark}
+use Rattle.plain.specs.Plain.{limits}
 use Rattle.runs.specs.Calls.{Named, Call, set-up, check, insert, delete, smallest-x, largest-x, smallest-y, list, opens, closes, first, last, earliest, covers, meets, contains, save, promised, lentBy}
 use Rattle.marked.specs.Tables.{isRefusal}
 use Rattle.marked.specs.Wrong.{Kind, set-ups, inserts, deletes, smallest-xs, largest-xs, smallest-ys, listings, openings, closings, firsts, lasts, earliests, coverings, meetings, containings, checks, saves, kindOf, writesOf}

@@ -3,12 +3,12 @@ use Prim.Native.Nat.{ℕ, _+_, _*_}
 use mathlib.Core.Path.{_≡_}
 use mathlib.Core.Bool.{Bool, true, false, cond, _||_}
 use mathlib.Core.List.{List, [], _∷_}
-use Rattle.rule.specs.declared.Outcome.{Outcome}
-use Rattle.rule.specs.declared.Outcome.the-variants.{Found, Nothing, Listed, Refused}
-use Rattle.rule.specs.Answer.{refused}
-use Rattle.rule.specs.Refusals.{Line}
-use Rattle.rule.specs.Stripe.{rootStripe}
-use Rattle.rule.specs.Walks.{smallestX, largestX, smallestY, listing, roomOf}
+use Rattle.kinds.specs.declared.Outcome.{Outcome}
+use Rattle.kinds.specs.declared.Outcome.the-variants.{Found, Nothing, Listed, Refused}
+use Rattle.kinds.specs.Answer.{refused}
+use Rattle.kinds.specs.Refusals.{Line}
+use Rattle.kinds.specs.Stripe.{rootStripe}
+use Rattle.walks.specs.Walks.{smallestX, largestX, smallestY, listing, roomOf}
 use Rattle.sound.specs.Promises.{lengthLine, soundLine}
 use Rattle.pool.specs.Asking.{treeOf, backwardsLine}
 use Rattle.pool.specs.Changing.{takenLine, fullLine, missingLine, otherLine}

@@ -4,8 +4,8 @@ use mathlib.Core.Path.{_≡_}
 use mathlib.Core.Logic.{_≢_, _⊎_}
 use mathlib.Core.Bool.{Bool, true, false}
 use mathlib.Core.List.{List, [], _∷_}
-use Rattle.rule.specs.declared.Five.{Five}
-use Rattle.rule.specs.Answer.{five}
+use Rattle.kinds.specs.declared.Five.{Five}
+use Rattle.kinds.specs.Answer.{five}
 use Rattle.runs.specs.Calls.{Call, set-up, check, insert, delete, smallest-x, largest-x, smallest-y, list, opens, closes, first, last, earliest, covers, meets, contains, save, Result, promised, lentBy}
 use Rattle.runs.specs.Playing.{Run}
 use Rattle.marked.specs.Tables.{isRefusal, visitsOf}

@@ -4,8 +4,8 @@ use mathlib.Core.Path.{_≡_, refl}
 use mathlib.Core.Bool.{Bool, true, false}
 use mathlib.Core.List.{List}
 use native.Mathlib.Omega.{arith}
-use Rattle.rule.specs.declared.Pair.{Pair}
-use Rattle.rule.specs.Cells.{Fits, pairAt}
+use Rattle.kinds.specs.declared.Pair.{Pair}
+use Rattle.pools.specs.Cells.{Fits, pairAt}
 use Rattle.questions.specs.Walking.{Some}
 use Rattle.questions.proofs.Finding.{found-none, found-some}
 use Rattle.nearest.specs.Nearer.{Nearer}

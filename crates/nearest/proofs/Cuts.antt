@@ -3,13 +3,13 @@ use Prim.Native.Nat.{ℕ, zero, suc, _+_, _-_, _/_, _^_, _≤_}
 use mathlib.Core.Path.{_≡_, refl, sym, ap, _∙_}
 use native.Mathlib.Omega.{arith}
 use native.Mathlib.Nat.{two-pow-succ}
-use Rattle.rule.specs.declared.Finding.the-variants.{Nothing}
-use Rattle.rule.specs.declared.Pair.{Pair}
-use Rattle.rule.specs.declared.Walked.{Walked}
-use Rattle.rule.specs.Stripe.{Stripe, middle, leftPart, rightPart}
-use Rattle.rule.specs.Tree.{Tree, none, fork, Within}
-use Rattle.rule.specs.Walks.{seen}
-use Rattle.rule.proofs.Heights.{some}
+use Rattle.kinds.specs.declared.Finding.the-variants.{Nothing}
+use Rattle.kinds.specs.declared.Pair.{Pair}
+use Rattle.kinds.specs.declared.Walked.{Walked}
+use Rattle.kinds.specs.Stripe.{Stripe, middle, leftPart, rightPart}
+use Rattle.trees.specs.Tree.{Tree, none, fork, Within}
+use Rattle.walks.specs.Walks.{seen}
+use Rattle.kinds.proofs.Heights.{some}
 use Rattle.nearest.specs.declared.cut.Cut.{Cut}
 use Rattle.nearest.specs.Cuts.{wide, stripeBy, rootCut, leftCut, rightCut, MiddleFits, CutAt}
 

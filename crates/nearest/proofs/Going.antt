@@ -5,18 +5,18 @@ use mathlib.Core.Bool.{Bool, true, false, cond}
 use mathlib.Core.List.{List, [], _∷_}
 use native.Mathlib.Omega.{arith}
 use lib.ListN.{length}
-use Rattle.rule.specs.declared.Finding.the-variants.{Nothing}
-use Rattle.rule.specs.declared.Limits.{Limits}
-use Rattle.rule.specs.declared.Pair.{Pair}
-use Rattle.rule.specs.declared.Walked.{Walked}
-use Rattle.rule.specs.Cells.{pairAt, treeAt}
-use Rattle.rule.specs.Plain.{inRange}
-use Rattle.rule.specs.Sound.{allLevels, nowhere}
-use Rattle.rule.specs.Stripe.{Stripe}
-use Rattle.rule.specs.Tree.{Tree, none, size}
-use Rattle.rule.specs.Walks.{seen}
-use Rattle.rule.proofs.Best.{Ranks}
-use Rattle.rule.proofs.Leads.{tree-none, within-more}
+use Rattle.kinds.specs.declared.Finding.the-variants.{Nothing}
+use Rattle.kinds.specs.declared.Limits.{Limits}
+use Rattle.kinds.specs.declared.Pair.{Pair}
+use Rattle.kinds.specs.declared.Walked.{Walked}
+use Rattle.pools.specs.Cells.{pairAt, treeAt}
+use Rattle.plain.specs.Plain.{inRange}
+use Rattle.kinds.specs.Stripe.{allLevels, Stripe}
+use Rattle.pools.specs.Sound.{nowhere}
+use Rattle.trees.specs.Tree.{Tree, none, size}
+use Rattle.walks.specs.Walks.{seen}
+use Rattle.plain.proofs.Closest.{Ranks}
+use Rattle.pools.proofs.Leads.{tree-none, within-more}
 use Rattle.questions.specs.Walking.{foundAt}
 use Rattle.nearest.specs.declared.cut.Cut.{Cut}
 use Rattle.nearest.specs.Cuts.{stripeBy}

@@ -5,18 +5,18 @@ use mathlib.Core.Bool.{Bool, true, false, cond}
 use mathlib.Core.List.{List, _∷_}
 use native.Mathlib.Omega.{arith}
 use lib.ListN.{length, getD, set, length-set}
-use Rattle.rule.specs.declared.Finding.{Finding}
-use Rattle.rule.specs.declared.Finding.the-variants.{Nothing}
-use Rattle.rule.specs.declared.Limits.{Limits}
-use Rattle.rule.specs.declared.Pair.{Pair}
-use Rattle.rule.specs.declared.Walked.{Walked}
-use Rattle.rule.specs.Cells.{Fits, pairAt, rootOf, treeAt}
-use Rattle.rule.specs.Plain.{inRange}
-use Rattle.rule.specs.Sound.{Sound, lowLevels, allLevels}
-use Rattle.rule.specs.Stripe.{Stripe, rootStripe}
-use Rattle.rule.specs.Tree.{Tree, size, Within}
-use Rattle.rule.specs.Walks.{seen}
-use Rattle.rule.proofs.Leads.{tree-none, tree-fork, tree-within, leads-fits}
+use Rattle.kinds.specs.declared.Finding.{Finding}
+use Rattle.kinds.specs.declared.Finding.the-variants.{Nothing}
+use Rattle.kinds.specs.declared.Limits.{Limits}
+use Rattle.kinds.specs.declared.Pair.{Pair}
+use Rattle.kinds.specs.declared.Walked.{Walked}
+use Rattle.pools.specs.Cells.{Fits, pairAt, rootOf, treeAt}
+use Rattle.plain.specs.Plain.{inRange}
+use Rattle.pools.specs.Sound.{Sound}
+use Rattle.kinds.specs.Stripe.{lowLevels, allLevels, Stripe, rootStripe}
+use Rattle.trees.specs.Tree.{Tree, size, Within}
+use Rattle.walks.specs.Walks.{seen}
+use Rattle.pools.proofs.Leads.{tree-none, tree-fork, tree-within, leads-fits}
 use Rattle.questions.specs.Walking.{foundAt}
 use Rattle.questions.proofs.Finding.{no-slot, found-none}
 use Rattle.questions.proofs.Top.{root-asked}

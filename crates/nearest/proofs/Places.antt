@@ -4,15 +4,15 @@ use mathlib.Core.Path.{_≡_, refl, sym}
 use mathlib.Core.Bool.{Bool, true, false, cond}
 use mathlib.Core.List.{List}
 use native.Mathlib.Omega.{arith}
-use Rattle.rule.specs.declared.Finding.the-variants.{Nothing}
-use Rattle.rule.specs.declared.Pair.{Pair}
-use Rattle.rule.specs.declared.Walked.{Walked}
-use Rattle.rule.specs.Cells.{treeAt}
-use Rattle.rule.specs.Sound.{Leads, lowLevels, allLevels, nowhere}
-use Rattle.rule.specs.Stripe.{Stripe}
-use Rattle.rule.specs.Tree.{Tree, none, size, Within}
-use Rattle.rule.proofs.Leads.{tree-none, tree-deeper}
-use Rattle.rule.specs.Walks.{seen, ask}
+use Rattle.kinds.specs.declared.Finding.the-variants.{Nothing}
+use Rattle.kinds.specs.declared.Pair.{Pair}
+use Rattle.kinds.specs.declared.Walked.{Walked}
+use Rattle.pools.specs.Cells.{treeAt}
+use Rattle.pools.specs.Sound.{Leads, nowhere}
+use Rattle.kinds.specs.Stripe.{lowLevels, allLevels, Stripe}
+use Rattle.trees.specs.Tree.{Tree, none, size, Within}
+use Rattle.pools.proofs.Leads.{tree-none, tree-deeper}
+use Rattle.walks.specs.Walks.{seen, ask}
 use Rattle.nearest.specs.declared.cut.Cut.{Cut}
 use Rattle.nearest.specs.Cuts.{CutAt}
 use Rattle.nearest.specs.Waiting.{place, Stands}

@@ -5,18 +5,18 @@ use mathlib.Core.Bool.{Bool, true, false}
 use mathlib.Core.List.{List}
 use native.Mathlib.Omega.{arith}
 use lib.Dec.{ltb, leb}
-use Rattle.rule.specs.declared.Finding.the-variants.{Nothing}
-use Rattle.rule.specs.declared.Limits.{Limits}
-use Rattle.rule.specs.declared.Pair.{Pair}
-use Rattle.rule.specs.declared.Walked.{Walked}
-use Rattle.rule.specs.Cells.{pairAt, leftAt, rightAt, sonAt, treeAt}
-use Rattle.rule.specs.Plain.{smaller, larger}
-use Rattle.rule.specs.Sound.{Leads, lowLevels, allLevels}
-use Rattle.rule.specs.Stripe.{Stripe, middle, leftPart, rightPart}
-use Rattle.rule.specs.Tree.{Tree, none, fork, size, Within}
-use Rattle.rule.specs.Walks.{seen, ask, byX, smallestX, largestX}
-use Rattle.rule.proofs.Best.{Ranks, by-smaller, by-larger}
-use Rattle.rule.proofs.Leads.{within-more, tree-fork, leads-son}
+use Rattle.kinds.specs.declared.Finding.the-variants.{Nothing}
+use Rattle.kinds.specs.declared.Limits.{Limits}
+use Rattle.kinds.specs.declared.Pair.{Pair}
+use Rattle.kinds.specs.declared.Walked.{Walked}
+use Rattle.pools.specs.Cells.{pairAt, leftAt, rightAt, sonAt, treeAt}
+use Rattle.plain.specs.Plain.{smaller, larger}
+use Rattle.pools.specs.Sound.{Leads}
+use Rattle.kinds.specs.Stripe.{lowLevels, allLevels, Stripe, middle, leftPart, rightPart}
+use Rattle.trees.specs.Tree.{Tree, none, fork, size, Within}
+use Rattle.walks.specs.Walks.{seen, ask, byX, smallestX, largestX}
+use Rattle.plain.proofs.Closest.{Ranks, by-smaller, by-larger}
+use Rattle.pools.proofs.Leads.{within-more, tree-fork, leads-son}
 use Rattle.nearest.specs.declared.cut.Cut.{Cut}
 use Rattle.nearest.specs.Asking.{leftAsked, rightAsked}
 use Rattle.nearest.specs.Cuts.{stripeBy, leftCut, rightCut}

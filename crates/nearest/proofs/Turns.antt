@@ -4,15 +4,15 @@ use mathlib.Core.Path.{_≡_, refl, sym, ap, _∙_}
 use mathlib.Core.Bool.{Bool, true, false, cond}
 use native.Mathlib.Omega.{arith}
 use borrow.Author.Tests.{lt-ltb, le-ltb, le-leb}
-use Rattle.rule.specs.declared.Finding.{Finding}
-use Rattle.rule.specs.declared.Finding.the-variants.{Found, Nothing}
-use Rattle.rule.specs.declared.Limits.{Limits}
-use Rattle.rule.specs.declared.Pair.{Pair}
-use Rattle.rule.specs.declared.Walked.{Walked}
-use Rattle.rule.specs.Plain.{inRange, matches, own, closest}
-use Rattle.rule.specs.Walks.{seen, byX}
-use Rattle.rule.proofs.Best.{Ranks, closest-nothing, closest-assoc}
-use Rattle.rule.proofs.Tests.{on}
+use Rattle.kinds.specs.declared.Finding.{Finding}
+use Rattle.kinds.specs.declared.Finding.the-variants.{Found, Nothing}
+use Rattle.kinds.specs.declared.Limits.{Limits}
+use Rattle.kinds.specs.declared.Pair.{Pair}
+use Rattle.kinds.specs.declared.Walked.{Walked}
+use Rattle.plain.specs.Plain.{inRange, matches, own, closest}
+use Rattle.walks.specs.Walks.{seen, byX}
+use Rattle.plain.proofs.Closest.{Ranks, closest-nothing, closest-assoc}
+use Rattle.kinds.proofs.Tests.{on}
 use Rattle.nearest.specs.Waiting.{after, since}
 
 same : {f g : Finding} {v w : ℕ} → f ≡ g → v ≡ w → seen f v ≡ seen g w

@@ -1,7 +1,7 @@
 -- How the x walks hold a stripe: by its lower end and half of its width.
 use Prim.Native.Nat.{ℕ, zero, suc, _+_, _/_, _^_, _≤_, _<_}
 use mathlib.Core.Path.{_≡_}
-use Rattle.rule.specs.Stripe.{Stripe}
+use Rattle.kinds.specs.Stripe.{Stripe}
 use Rattle.nearest.specs.declared.cut.Cut.{Cut}
 
 -- a width by its half: the half of a single x is 0

@@ -3,10 +3,10 @@ use Prim.Native.Nat.{ℕ}
 use mathlib.Core.Path.{_≡_}
 use mathlib.Core.Bool.{Bool, cond}
 use mathlib.Core.List.{List}
-use Rattle.rule.specs.declared.Finding.the-variants.{Found, Nothing}
-use Rattle.rule.specs.declared.Pair.{Pair}
-use Rattle.rule.specs.Cells.{pairAt}
-use Rattle.rule.specs.Plain.{closest}
+use Rattle.kinds.specs.declared.Finding.the-variants.{Found, Nothing}
+use Rattle.kinds.specs.declared.Pair.{Pair}
+use Rattle.pools.specs.Cells.{pairAt}
+use Rattle.plain.specs.Plain.{closest}
 use Rattle.questions.specs.Walking.{foundAt, Some}
 
 -- the slot's own pair if it is a hit, unless what was found so far is closer

@@ -4,16 +4,16 @@ use mathlib.Core.Path.{_≡_}
 use mathlib.Core.Bool.{Bool}
 use mathlib.Core.List.{List, [], _∷_}
 use lib.ListN.{length, getD}
-use Rattle.rule.specs.declared.Finding.{Finding}
-use Rattle.rule.specs.declared.Finding.the-variants.{Nothing}
-use Rattle.rule.specs.declared.Pair.{Pair}
-use Rattle.rule.specs.declared.Walked.{Walked}
-use Rattle.rule.specs.Cells.{treeAt}
-use Rattle.rule.specs.Plain.{closest}
-use Rattle.rule.specs.Sound.{Leads, lowLevels, allLevels}
-use Rattle.rule.specs.Stripe.{Stripe}
-use Rattle.rule.specs.Tree.{Tree, Within, size}
-use Rattle.rule.specs.Walks.{seen, orElse}
+use Rattle.kinds.specs.declared.Finding.{Finding}
+use Rattle.kinds.specs.declared.Finding.the-variants.{Nothing}
+use Rattle.kinds.specs.declared.Pair.{Pair}
+use Rattle.kinds.specs.declared.Walked.{Walked}
+use Rattle.pools.specs.Cells.{treeAt}
+use Rattle.plain.specs.Plain.{closest}
+use Rattle.pools.specs.Sound.{Leads}
+use Rattle.kinds.specs.Stripe.{lowLevels, allLevels, Stripe}
+use Rattle.trees.specs.Tree.{Tree, Within, size}
+use Rattle.walks.specs.Walks.{seen, orElse}
 use Rattle.questions.specs.Walking.{foundAt, Some}
 use Rattle.nearest.specs.declared.cut.Cut.{Cut}
 use Rattle.nearest.specs.Cuts.{stripeBy, CutAt}

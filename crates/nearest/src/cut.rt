@@ -1,7 +1,7 @@
 // A stripe in 32 bits, by its lower end and half of its width.
 ghost use mathlib.Core.Path.{_≡_};
 ghost use lib.Dec.{ltb};
-ghost use Rattle.rule.specs.Stripe.{middle};
+ghost use Rattle.kinds.specs.Stripe.{middle};
 ghost use Rattle.nearest.specs.Cuts.{MiddleFits, stripeBy, rootCut, leftCut, rightCut};
 
 pub struct Cut {

@@ -1,17 +1,17 @@
 // Smallest and largest x over a sound pool, each the other's mirror: a loop, with the second sons that wait in rows. A place waits
 // for a slot above whose first son has given nothing so far; slot 0 is an empty place, where the one that came last is next.
 use cut::Cut;
+use kinds::Walked;
 use questions::found_at;
 use questions::in_range;
-use rule::Walked;
 ghost use mathlib.Core.Path.{_≡_};
 ghost use mathlib.Core.Bool.{cond};
 ghost use Prim.Native.Nat.{_≤_};
-ghost use Rattle.rule.specs.Cells.{Fits, rootOf, treeAt};
-ghost use Rattle.rule.specs.Plain.{limits, smaller, larger};
-ghost use Rattle.rule.specs.Sound.{Sound, allLevels};
-ghost use Rattle.rule.specs.Stripe.{rootStripe};
-ghost use Rattle.rule.specs.Walks.{smallestX, largestX};
+ghost use Rattle.pools.specs.Cells.{Fits, rootOf, treeAt};
+ghost use Rattle.plain.specs.Plain.{limits, smaller, larger};
+ghost use Rattle.pools.specs.Sound.{Sound};
+ghost use Rattle.kinds.specs.Stripe.{allLevels, rootStripe};
+ghost use Rattle.walks.specs.Walks.{smallestX, largestX};
 ghost use Rattle.questions.specs.Walking.{Some};
 ghost use Rattle.nearest.specs.Nearer.{Nearer};
 ghost use Rattle.nearest.specs.Asking.{leftAsked, rightAsked};

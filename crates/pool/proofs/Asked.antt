@@ -6,25 +6,25 @@ use mathlib.Core.List.{List, [], _∷_, List·Memᴰ}
 use lib.Dec.{ltb}
 use lib.ListN.{length, take}
 use borrow.Author.Tests.{lt-ltb, le-ltb}
-use Rattle.rule.specs.declared.Answer.{Answer}
-use Rattle.rule.specs.declared.Finding.{Finding}
-use Rattle.rule.specs.declared.Limits.{Limits}
-use Rattle.rule.specs.declared.Pair.{Pair}
-use Rattle.rule.specs.declared.Walked.{Walked}
-use Rattle.rule.specs.Answer.{refused}
-use Rattle.rule.specs.Cells.{stored}
-use Rattle.rule.specs.Codes as codes
-use Rattle.rule.specs.Plain.{smallestXOf, largestXOf, smallestYOf}
-use Rattle.rule.specs.Refusals.{answerBy, Leaves}
-use Rattle.rule.specs.Sound.{Sound}
-use Rattle.rule.specs.Stripe.{rootStripe}
-use Rattle.rule.specs.Tree.{Mem}
-use Rattle.rule.specs.Walks.{smallestX, largestX, smallestY, listing, roomOf, written}
-use Rattle.rule.proofs.AnyOrder.{smallestX-any, largestX-any, smallestY-any}
-use Rattle.rule.proofs.Decided.{sound-tree}
-use Rattle.rule.proofs.Lists.{listing-pairs, listing-more}
-use Rattle.rule.proofs.Stored.{stored-mem}
-use Rattle.rule.proofs.Tables.{left-refused, left-passed, left-none, answer-refused, answer-passed, answer-none}
+use Rattle.kinds.specs.declared.Answer.{Answer}
+use Rattle.kinds.specs.declared.Finding.{Finding}
+use Rattle.kinds.specs.declared.Limits.{Limits}
+use Rattle.kinds.specs.declared.Pair.{Pair}
+use Rattle.kinds.specs.declared.Walked.{Walked}
+use Rattle.kinds.specs.Answer.{refused}
+use Rattle.pools.specs.Cells.{stored}
+use Rattle.kinds.specs.Codes as codes
+use Rattle.plain.specs.Plain.{smallestXOf, largestXOf, smallestYOf}
+use Rattle.kinds.specs.Refusals.{answerBy, Leaves}
+use Rattle.pools.specs.Sound.{Sound}
+use Rattle.kinds.specs.Stripe.{rootStripe}
+use Rattle.trees.specs.Tree.{Mem}
+use Rattle.walks.specs.Walks.{smallestX, largestX, smallestY, listing, roomOf, written}
+use Rattle.walks.proofs.AnyOrder.{smallestX-any, largestX-any, smallestY-any}
+use Rattle.pools.proofs.Decided.{sound-tree}
+use Rattle.walks.proofs.Lists.{listing-pairs, listing-more}
+use Rattle.pools.proofs.Stored.{stored-mem}
+use Rattle.kinds.proofs.Tables.{left-refused, left-passed, left-none, answer-refused, answer-passed, answer-none}
 use Rattle.listing.specs.declared.Listing.{Listing}
 use Rattle.listing.specs.Listing.{Lent}
 use Rattle.sound.specs.Promises.{lengthLine, soundLine}

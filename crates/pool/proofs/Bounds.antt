@@ -4,21 +4,21 @@ use mathlib.Core.Bool.{Bool}
 use mathlib.Core.List.{List, [], _∷_}
 use native.Mathlib.Omega.{arith}
 use lib.ListN.{length, take}
-use Rattle.rule.specs.declared.Answer.{Answer}
-use Rattle.rule.specs.declared.Limits.{Limits}
-use Rattle.rule.specs.Answer.{five, refused}
-use Rattle.rule.specs.Refusals.{Line, answerBy, Left, leftBy}
-use Rattle.rule.specs.Sound.{Sound, itself}
-use Rattle.rule.specs.Stripe.{rootStripe}
-use Rattle.rule.specs.Test.{isPool, isSound}
-use Rattle.rule.specs.Tree.{Well}
-use Rattle.rule.specs.Walks.{listing, roomOf}
-use Rattle.rule.proofs.Tests.{on}
-use Rattle.rule.proofs.Decided.{test-sound, sound-well, sound-tree}
-use Rattle.rule.proofs.Lists.{listing-pairs}
-use Rattle.rule.proofs.ListVisits.{listing-visits}
-use Rattle.rule.proofs.Numbers.{five-visits, five-count, refused-numbers}
-use Rattle.rule.proofs.Visits.{smallestX-visits, largestX-visits, smallestY-visits}
+use Rattle.kinds.specs.declared.Answer.{Answer}
+use Rattle.kinds.specs.declared.Limits.{Limits}
+use Rattle.kinds.specs.Answer.{five, refused}
+use Rattle.kinds.specs.Refusals.{Line, answerBy, Left, leftBy}
+use Rattle.pools.specs.Sound.{Sound}
+use Rattle.trees.specs.Tree.{itself, Well}
+use Rattle.kinds.specs.Stripe.{rootStripe}
+use Rattle.pools.specs.Test.{isPool, isSound}
+use Rattle.walks.specs.Walks.{listing, roomOf}
+use Rattle.kinds.proofs.Tests.{on}
+use Rattle.pools.proofs.Decided.{test-sound, sound-well, sound-tree}
+use Rattle.walks.proofs.Lists.{listing-pairs}
+use Rattle.walks.proofs.ListVisits.{listing-visits}
+use Rattle.kinds.proofs.Numbers.{five-visits, five-count, refused-numbers}
+use Rattle.walks.proofs.Visits.{smallestX-visits, largestX-visits, smallestY-visits}
 use Rattle.sound.specs.Promises.{lengthLine, soundLine}
 use Rattle.pool.specs.Asking.{treeOf, smallestXAnswer, largestXAnswer, smallestYAnswer, matchesOf, listedBy, listedOf, backwardsLine, listingLeft}
 use Rattle.pool.specs.Showing.{FewVisits}

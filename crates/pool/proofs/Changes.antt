@@ -5,19 +5,19 @@ use mathlib.Core.Logic.{_≢_, _↔_, _⊎_}
 use mathlib.Core.Bool.{true, false}
 use mathlib.Core.List.{List, List·Memᴰ}
 use borrow.Author.Tests.{ne-eqb}
-use Rattle.rule.specs.declared.Pair.{Pair}
-use Rattle.rule.specs.Answer.{five, numbersOf}
-use Rattle.rule.specs.Cells.{stored}
-use Rattle.rule.specs.Refusals.{Left}
-use Rattle.rule.specs.Sound.{Sound, itself}
-use Rattle.rule.specs.Stripe.{rootStripe}
-use Rattle.rule.specs.Tree.{bare}
-use Rattle.rule.proofs.Tests.{clash}
-use Rattle.rule.proofs.Decided.{sound-well}
-use Rattle.rule.proofs.Same.{same-set}
-use Rattle.rule.proofs.Stored.{stored-mem}
-use Rattle.rule.proofs.Inserted.{inserted-sound, inserted-stored}
-use Rattle.rule.proofs.Deleted.{deleted-sound, deleted-stored, deleted-gone}
+use Rattle.kinds.specs.declared.Pair.{Pair}
+use Rattle.kinds.specs.Answer.{five, numbersOf}
+use Rattle.pools.specs.Cells.{stored}
+use Rattle.kinds.specs.Refusals.{Left}
+use Rattle.pools.specs.Sound.{Sound}
+use Rattle.trees.specs.Tree.{itself, bare}
+use Rattle.kinds.specs.Stripe.{rootStripe}
+use Rattle.kinds.proofs.Tests.{clash}
+use Rattle.pools.proofs.Decided.{sound-well}
+use Rattle.trees.proofs.Same.{same-set}
+use Rattle.pools.proofs.Stored.{stored-mem}
+use Rattle.pools.proofs.Inserted.{inserted-sound, inserted-stored}
+use Rattle.pools.proofs.Deleted.{deleted-sound, deleted-stored, deleted-gone}
 use Rattle.pool.specs.Changing.{insertion, deletion, accepted}
 use Rattle.pool.proofs.Views.{Does, refuses, makes, insertion-view, deletion-view}
 

@@ -5,16 +5,16 @@ use mathlib.Core.Bool.{Bool, true, false}
 use mathlib.Core.List.{List, [], _∷_}
 use native.Mathlib.Omega.{arith}
 use borrow.Author.Tests.{eq-eqb}
-use Rattle.rule.specs.declared.Pair.{Pair}
-use Rattle.rule.specs.Answer.{ended}
-use Rattle.rule.specs.Cells.{freeOf, stored}
-use Rattle.rule.specs.Codes as codes
-use Rattle.rule.specs.Laid.{inserted}
-use Rattle.rule.specs.Plain.{hasX}
-use Rattle.rule.specs.Refusals.{leftBy, Leaves}
-use Rattle.rule.specs.Sound.{Sound}
-use Rattle.rule.proofs.Decided.{true-pool, sound-test}
-use Rattle.rule.proofs.Tables.{left-refused, left-passed}
+use Rattle.kinds.specs.declared.Pair.{Pair}
+use Rattle.kinds.specs.Answer.{ended}
+use Rattle.pools.specs.Cells.{freeOf, stored}
+use Rattle.kinds.specs.Codes as codes
+use Rattle.pools.specs.Laid.{inserted}
+use Rattle.plain.specs.Plain.{hasX}
+use Rattle.kinds.specs.Refusals.{leftBy, Leaves}
+use Rattle.pools.specs.Sound.{Sound}
+use Rattle.pools.proofs.Decided.{true-pool, sound-test}
+use Rattle.kinds.proofs.Tables.{left-refused, left-passed}
 use Rattle.down.specs.Down.{Enters}
 use Rattle.hole.specs.Hole.{Deletes, missing, other, done}
 use Rattle.hole.specs.declared.Removal.{Removal}

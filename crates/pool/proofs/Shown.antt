@@ -5,18 +5,18 @@ use mathlib.Core.Logic.{_↔_}
 use mathlib.Core.Bool.{true, false}
 use mathlib.Core.List.{List, map, List·Memᴰ}
 use lib.Dec.{ltb}
-use Rattle.rule.specs.declared.Limits.{Limits}
-use Rattle.rule.specs.declared.Pair.{Pair}
-use Rattle.rule.specs.Cells.{stored}
-use Rattle.rule.specs.Plain.{matches, Alike}
-use Rattle.rule.specs.Refusals.{leftBy}
-use Rattle.rule.specs.Sound.{Sound, itself}
-use Rattle.rule.specs.Stripe.{rootStripe}
-use Rattle.rule.specs.Tree.{members, Apart}
-use Rattle.rule.proofs.Decided.{true-pool, sound-test, sound-well, sound-tree}
-use Rattle.rule.proofs.Members.{members-mem, well-apart}
-use Rattle.rule.proofs.Stored.{stored-mem}
-use Rattle.rule.proofs.Those.{those-mem, those-apart}
+use Rattle.kinds.specs.declared.Limits.{Limits}
+use Rattle.kinds.specs.declared.Pair.{Pair}
+use Rattle.pools.specs.Cells.{stored}
+use Rattle.plain.specs.Plain.{matches, Alike, Apart}
+use Rattle.kinds.specs.Refusals.{leftBy}
+use Rattle.pools.specs.Sound.{Sound}
+use Rattle.trees.specs.Tree.{itself, members}
+use Rattle.kinds.specs.Stripe.{rootStripe}
+use Rattle.pools.proofs.Decided.{true-pool, sound-test, sound-well, sound-tree}
+use Rattle.trees.proofs.Members.{members-mem, well-apart}
+use Rattle.pools.proofs.Stored.{stored-mem}
+use Rattle.plain.proofs.Those.{those-mem, those-apart}
 use Rattle.pool.specs.Asking.{treeOf, matchesOf, listingLeft}
 use Rattle.pool.specs.Showing.{Shows}
 

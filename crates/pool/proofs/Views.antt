@@ -7,20 +7,20 @@ use mathlib.Core.List.{List}
 use native.Mathlib.Omega.{arith}
 use lib.Dec.{eqb}
 use borrow.Author.Tests.{eqb-false, ne-eqb}
-use Rattle.rule.specs.declared.Pair.{Pair}
-use Rattle.rule.specs.Answer.{finished, refused}
-use Rattle.rule.specs.Cells.{freeOf, stored}
-use Rattle.rule.specs.Laid.{inserted, deleted}
-use Rattle.rule.specs.Plain.{hasX, has}
-use Rattle.rule.specs.Refusals.{Left, leftBy}
-use Rattle.rule.specs.Sound.{Sound, itself}
-use Rattle.rule.specs.Test.{isPool, isSound}
-use Rattle.rule.specs.Tree.{Mem}
-use Rattle.rule.proofs.Tests.{on, clash}
-use Rattle.rule.proofs.Trees.{New, all-map, all-mem, all-at}
-use Rattle.rule.proofs.Decided.{true-pool, test-sound, sound-test}
-use Rattle.rule.proofs.Having.{hasX-true, true-hasX, has-true, true-has}
-use Rattle.rule.proofs.Stored.{stored-mem}
+use Rattle.kinds.specs.declared.Pair.{Pair}
+use Rattle.kinds.specs.Answer.{finished, refused}
+use Rattle.pools.specs.Cells.{freeOf, stored}
+use Rattle.pools.specs.Laid.{inserted, deleted}
+use Rattle.plain.specs.Plain.{hasX, has}
+use Rattle.kinds.specs.Refusals.{Left, leftBy}
+use Rattle.pools.specs.Sound.{Sound}
+use Rattle.trees.specs.Tree.{itself, Mem}
+use Rattle.pools.specs.Test.{isPool, isSound}
+use Rattle.kinds.proofs.Tests.{on, clash}
+use Rattle.trees.proofs.Trees.{New, all-map, all-mem, all-at}
+use Rattle.pools.proofs.Decided.{true-pool, test-sound, sound-test}
+use Rattle.plain.proofs.Having.{hasX-true, true-hasX, has-true, true-has}
+use Rattle.pools.proofs.Stored.{stored-mem}
 use Rattle.down.specs.Down.{Enters}
 use Rattle.pool.specs.Changing.{insertion, deletion}
 

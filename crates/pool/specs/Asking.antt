@@ -4,21 +4,20 @@ use mathlib.Core.Bool.{Bool}
 use mathlib.Core.List.{List, [], _∷_}
 use lib.Dec.{ltb}
 use lib.ListN.{length, take}
-use Rattle.rule.specs.declared.Answer.{Answer}
-use Rattle.rule.specs.declared.Finding.{Finding}
-use Rattle.rule.specs.declared.Finding.the-variants.{Found as found-pair, Nothing as no-pair}
-use Rattle.rule.specs.declared.Limits.{Limits}
-use Rattle.rule.specs.declared.Outcome.{Outcome}
-use Rattle.rule.specs.declared.Outcome.the-variants.{Found, Nothing, Listed}
-use Rattle.rule.specs.declared.Pair.{Pair}
-use Rattle.rule.specs.Cells.{rootOf, stored, treeAt}
-use Rattle.rule.specs.Codes as codes
-use Rattle.rule.specs.Plain.{matches, those, smallestXOf, largestXOf, smallestYOf}
-use Rattle.rule.specs.Refusals.{Line, answerBy, Left, leftBy}
-use Rattle.rule.specs.Sound.{allLevels}
-use Rattle.rule.specs.Stripe.{rootStripe}
-use Rattle.rule.specs.Tree.{Tree, members}
-use Rattle.rule.specs.Walks.{smallestX, largestX, smallestY, listing, roomOf, written}
+use Rattle.kinds.specs.declared.Answer.{Answer}
+use Rattle.kinds.specs.declared.Finding.{Finding}
+use Rattle.kinds.specs.declared.Finding.the-variants.{Found as found-pair, Nothing as no-pair}
+use Rattle.kinds.specs.declared.Limits.{Limits}
+use Rattle.kinds.specs.declared.Outcome.{Outcome}
+use Rattle.kinds.specs.declared.Outcome.the-variants.{Found, Nothing, Listed}
+use Rattle.kinds.specs.declared.Pair.{Pair}
+use Rattle.pools.specs.Cells.{rootOf, stored, treeAt}
+use Rattle.kinds.specs.Codes as codes
+use Rattle.plain.specs.Plain.{matches, those, smallestXOf, largestXOf, smallestYOf}
+use Rattle.kinds.specs.Refusals.{Line, answerBy, Left, leftBy}
+use Rattle.kinds.specs.Stripe.{allLevels, rootStripe}
+use Rattle.trees.specs.Tree.{Tree, members}
+use Rattle.walks.specs.Walks.{smallestX, largestX, smallestY, listing, roomOf, written}
 use Rattle.sound.specs.Promises.{lengthLine, soundLine}
 
 -- the tree that a pool holds

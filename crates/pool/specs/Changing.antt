@@ -3,13 +3,13 @@ use Prim.Native.Nat.{ℕ}
 use mathlib.Core.Bool.{Bool, not, _&&_}
 use mathlib.Core.List.{List, [], _∷_}
 use lib.Dec.{eqb}
-use Rattle.rule.specs.declared.Pair.{Pair}
-use Rattle.rule.specs.Answer.{five, finished}
-use Rattle.rule.specs.Cells.{freeOf, stored}
-use Rattle.rule.specs.Codes as codes
-use Rattle.rule.specs.Laid.{inserted, deleted}
-use Rattle.rule.specs.Plain.{hasX, has}
-use Rattle.rule.specs.Refusals.{Line, Left, leftBy}
+use Rattle.kinds.specs.declared.Pair.{Pair}
+use Rattle.kinds.specs.Answer.{five, finished}
+use Rattle.pools.specs.Cells.{freeOf, stored}
+use Rattle.kinds.specs.Codes as codes
+use Rattle.pools.specs.Laid.{inserted, deleted}
+use Rattle.plain.specs.Plain.{hasX, has}
+use Rattle.kinds.specs.Refusals.{Line, Left, leftBy}
 use Rattle.sound.specs.Promises.{lengthLine, soundLine}
 
 -- x is stored, with whatever y

@@ -5,14 +5,14 @@ use mathlib.Core.Logic.{_↔_}
 use mathlib.Core.List.{List, map, List·Memᴰ}
 use lib.Dec.{ltb}
 use lib.ListN.{length, take}
-use Rattle.rule.specs.declared.Answer.{Answer}
-use Rattle.rule.specs.declared.Outcome.the-variants.{Listed}
-use Rattle.rule.specs.declared.Pair.{Pair}
-use Rattle.rule.specs.Answer.{five}
-use Rattle.rule.specs.Cells.{stored}
-use Rattle.rule.specs.Refusals.{Left}
-use Rattle.rule.specs.Tree.{Apart}
-use Rattle.rule.specs.Walks.{roomOf, written}
+use Rattle.kinds.specs.declared.Answer.{Answer}
+use Rattle.kinds.specs.declared.Outcome.the-variants.{Listed}
+use Rattle.kinds.specs.declared.Pair.{Pair}
+use Rattle.kinds.specs.Answer.{five}
+use Rattle.pools.specs.Cells.{stored}
+use Rattle.kinds.specs.Refusals.{Left}
+use Rattle.plain.specs.Plain.{Apart}
+use Rattle.walks.specs.Walks.{roomOf, written}
 
 -- there is a list of exactly the stored pairs that are asked for, each once; as many as there is room for are written, and the answer says whether there are more
 pub record Shows (c out : List ℕ) (Asked : Pair → Type 0) (w : Left) : Type 0 where

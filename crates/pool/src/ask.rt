@@ -1,13 +1,13 @@
 // The three questions for one pair.
-use rule::Answer;
-use rule::Finding;
-use rule::Outcome;
-use rule::Walked;
-use rule::codes;
+use kinds::Answer;
+use kinds::Finding;
+use kinds::Outcome;
+use kinds::Walked;
+use kinds::codes;
 use sound::Health;
 ghost use mathlib.Core.Path.{_≡_};
-ghost use Rattle.rule.specs.Plain.{limits};
-ghost use Rattle.rule.specs.Sound.{Sound};
+ghost use Rattle.plain.specs.Plain.{limits};
+ghost use Rattle.pools.specs.Sound.{Sound};
 ghost use Rattle.pool.specs.Asking.{answered, smallestXAnswer, largestXAnswer, smallestYAnswer};
 
 // A walk's finding as an answer.

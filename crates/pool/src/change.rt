@@ -1,12 +1,12 @@
 // Insert and delete.
 use hole::Removal;
-use rule::Answer;
-use rule::Pair;
-use rule::codes;
+use kinds::Answer;
+use kinds::Pair;
+use kinds::codes;
 use sound::Health;
-ghost use Rattle.rule.specs.Answer.{ended};
-ghost use Rattle.rule.specs.Refusals.{Leaves};
-ghost use Rattle.rule.specs.Sound.{Sound};
+ghost use Rattle.kinds.specs.Answer.{ended};
+ghost use Rattle.kinds.specs.Refusals.{Leaves};
+ghost use Rattle.pools.specs.Sound.{Sound};
 ghost use Rattle.pool.specs.Changing.{insertion, deletion};
 
 fn insert_sound(pool: &mut [u32], p: Pair) -> u32

@@ -1,7 +1,7 @@
 // The calls over a pool. Each accepts any lent cells and any numbers: the check, the refusals in their order, then one walk.
-use rule::Answer;
+use kinds::Answer;
 ghost use mathlib.Core.Path.{_≡_};
-ghost use Rattle.rule.specs.Refusals.{Leaves};
+ghost use Rattle.kinds.specs.Refusals.{Leaves};
 ghost use Rattle.sound.specs.Promises.{setUp, checked};
 
 mod ask;

@@ -1,13 +1,13 @@
 // The listing, into a second lent slice.
+use kinds::Answer;
+use kinds::Outcome;
+use kinds::codes;
 use listing::Listing;
-use rule::Answer;
-use rule::Outcome;
-use rule::codes;
 use sound::Health;
 ghost use mathlib.Core.Path.{_≡_};
-ghost use Rattle.rule.specs.Plain.{limits};
-ghost use Rattle.rule.specs.Refusals.{Leaves};
-ghost use Rattle.rule.specs.Sound.{Sound};
+ghost use Rattle.plain.specs.Plain.{limits};
+ghost use Rattle.kinds.specs.Refusals.{Leaves};
+ghost use Rattle.pools.specs.Sound.{Sound};
 ghost use Rattle.pool.specs.Asking.{listingLeft, listedBy};
 
 // What a listing says of itself as an answer.

@@ -5,9 +5,9 @@ use mathlib.Core.Bool.{not}
 use mathlib.Core.List.{List}
 use lib.Dec.{ltb, leb}
 use borrow.Author.Tests.{eq-eqb, ne-eqb, le-leb, lt-leb, ltb-true, ltb-false}
-use Rattle.rule.specs.declared.Finding.the-variants.{Found, Nothing}
-use Rattle.rule.specs.Cells.{pairAt}
-use Rattle.rule.proofs.Tests.{on}
+use Rattle.kinds.specs.declared.Finding.the-variants.{Found, Nothing}
+use Rattle.pools.specs.Cells.{pairAt}
+use Rattle.kinds.proofs.Tests.{on}
 use Rattle.questions.specs.Walking.{foundAt, Some}
 
 -- the code asks `not (x1 < m)` where the rule asks `m ≤ x1`

@@ -4,11 +4,11 @@ use mathlib.Core.Path.{_≡_}
 use mathlib.Core.Bool.{true, false}
 use mathlib.Core.List.{List}
 use native.Mathlib.Omega.{arith}
-use Rattle.rule.specs.Cells.{Fits, leftAt, rightAt, sonAt, treeAt}
-use Rattle.rule.specs.Stripe.{Stripe, leftPart, rightPart}
-use Rattle.rule.specs.Tree.{size}
-use Rattle.rule.proofs.Leads.{back, tree-fork, leads-deep, leads-fits, leads-son}
-use Rattle.rule.proofs.Stripes.{low-left, low-right}
+use Rattle.pools.specs.Cells.{Fits, leftAt, rightAt, sonAt, treeAt}
+use Rattle.kinds.specs.Stripe.{Stripe, leftPart, rightPart}
+use Rattle.trees.specs.Tree.{size}
+use Rattle.pools.proofs.Leads.{back, tree-fork, leads-deep, leads-fits, leads-son}
+use Rattle.kinds.proofs.Stripes.{low-left, low-right}
 use Rattle.questions.specs.Walking.{Asked}
 
 module _ (c : List ℕ) (k s : ℕ) (at : Stripe) (v : ℕ) (one : 1 ≤ s) (o : Asked c (suc k) s at v) where

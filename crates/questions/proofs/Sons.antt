@@ -4,13 +4,13 @@ use mathlib.Core.Path.{_≡_, refl}
 use mathlib.Core.Bool.{Bool, true, false}
 use mathlib.Core.List.{List}
 use native.Mathlib.Omega.{arith}
-use Rattle.rule.specs.declared.Finding.the-variants.{Nothing}
-use Rattle.rule.specs.declared.Pair.{Pair}
-use Rattle.rule.specs.declared.Walked.{Walked}
-use Rattle.rule.specs.Cells.{treeAt}
-use Rattle.rule.specs.Tree.{Tree, none}
-use Rattle.rule.specs.Walks.{seen, ask}
-use Rattle.rule.proofs.Leads.{back, tree-none}
+use Rattle.kinds.specs.declared.Finding.the-variants.{Nothing}
+use Rattle.kinds.specs.declared.Pair.{Pair}
+use Rattle.kinds.specs.declared.Walked.{Walked}
+use Rattle.pools.specs.Cells.{treeAt}
+use Rattle.trees.specs.Tree.{Tree, none}
+use Rattle.walks.specs.Walks.{seen, ask}
+use Rattle.pools.proofs.Leads.{back, tree-none}
 use Rattle.questions.specs.Walking.{Made}
 use Rattle.questions.proofs.Finding.{found-none}
 

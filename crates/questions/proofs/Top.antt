@@ -3,16 +3,16 @@ use Prim.Native.Nat.{ℕ, _≤_}
 use mathlib.Core.Path.{_≡_, sym, _∙_}
 use mathlib.Core.List.{List}
 use native.Mathlib.Omega.{arith}
-use Rattle.rule.specs.declared.Finding.{Finding}
-use Rattle.rule.specs.declared.Finding.the-variants.{Nothing}
-use Rattle.rule.specs.declared.Pair.{Pair}
-use Rattle.rule.specs.declared.Walked.{Walked}
-use Rattle.rule.specs.Cells.{Fits, rootOf, treeAt}
-use Rattle.rule.specs.Sound.{Sound, allLevels}
-use Rattle.rule.specs.Stripe.{Stripe, rootStripe}
-use Rattle.rule.specs.Tree.{Tree, none, size}
-use Rattle.rule.specs.Walks.{seen}
-use Rattle.rule.proofs.Leads.{tree-none, leads-tree}
+use Rattle.kinds.specs.declared.Finding.{Finding}
+use Rattle.kinds.specs.declared.Finding.the-variants.{Nothing}
+use Rattle.kinds.specs.declared.Pair.{Pair}
+use Rattle.kinds.specs.declared.Walked.{Walked}
+use Rattle.pools.specs.Cells.{Fits, rootOf, treeAt}
+use Rattle.pools.specs.Sound.{Sound}
+use Rattle.kinds.specs.Stripe.{allLevels, Stripe, rootStripe}
+use Rattle.trees.specs.Tree.{Tree, none, size}
+use Rattle.walks.specs.Walks.{seen}
+use Rattle.pools.proofs.Leads.{tree-none, leads-tree}
 use Rattle.questions.specs.Walking.{foundAt, Asked, Made}
 
 module _ (c : List ℕ) (o : Sound c) where

@@ -4,13 +4,13 @@ use mathlib.Core.Path.{_≡_}
 use mathlib.Core.Bool.{cond}
 use mathlib.Core.List.{List}
 use lib.Dec.{eqb}
-use Rattle.rule.specs.declared.Finding.{Finding}
-use Rattle.rule.specs.declared.Finding.the-variants.{Found, Nothing}
-use Rattle.rule.specs.declared.Walked.{Walked}
-use Rattle.rule.specs.Cells.{Fits, pairAt, treeAt}
-use Rattle.rule.specs.Sound.{Leads}
-use Rattle.rule.specs.Stripe.{Stripe, Low}
-use Rattle.rule.specs.Tree.{size}
+use Rattle.kinds.specs.declared.Finding.{Finding}
+use Rattle.kinds.specs.declared.Finding.the-variants.{Found, Nothing}
+use Rattle.kinds.specs.declared.Walked.{Walked}
+use Rattle.pools.specs.Cells.{Fits, pairAt, treeAt}
+use Rattle.pools.specs.Sound.{Leads}
+use Rattle.kinds.specs.Stripe.{Stripe, Low}
+use Rattle.trees.specs.Tree.{size}
 
 -- the finding that a slot's number stands for
 unfoldable pub foundAt : List ℕ → ℕ → Finding

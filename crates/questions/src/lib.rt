@@ -1,8 +1,8 @@
 // What the walks over a sound pool share.
-use rule::Finding;
-use rule::Pair;
+use kinds::Finding;
+use kinds::Pair;
 ghost use mathlib.Core.Path.{_≡_};
-ghost use Rattle.rule.specs.Plain.{inRange};
+ghost use Rattle.plain.specs.Plain.{inRange};
 ghost use Rattle.questions.specs.Walking.{foundAt, Some};
 
 // What a walk has found, read from its slot.

@@ -8,24 +8,23 @@ use native.Mathlib.Omega.{arith}
 use lib.Dec.{ltb, leb, eqb}
 use lib.ListN.{length}
 use borrow.Author.Tests.{ne-eqb, le-leb, lt-leb, eqb-true, eqb-false, not-true}
-use Rattle.rule.specs.declared.Limits.{Limits}
-use Rattle.rule.specs.declared.Outcome.{Outcome}
-use Rattle.rule.specs.declared.Pair.{Pair}
-use Rattle.rule.specs.Cells.{slotsOf, freeOf, stored}
-use Rattle.rule.specs.Laid.{inserted, deleted}
-use Rattle.rule.specs.Plain.{hasX, has, Alike}
-use Rattle.rule.specs.Refusals.{leftBy}
-use Rattle.rule.specs.Sound.{Sound, Chain, ends, next}
-use Rattle.rule.specs.Tree.{Differs, Apart}
-use Rattle.rule.proofs.Tests.{on, clash}
-use Rattle.rule.proofs.Counts.{those-count}
-use Rattle.rule.proofs.Those.{those-all, those-mem, those-apart}
-use Rattle.rule.proofs.Decided.{true-pool, sound-test}
-use Rattle.rule.proofs.Fresh.{fresh-sound, fresh-stored, fresh-slots}
-use Rattle.rule.proofs.Having.{hasX-true, true-hasX, has-true, true-has}
-use Rattle.rule.proofs.Inserted.{inserted-sound, inserted-length, inserted-stored}
-use Rattle.rule.proofs.Deleted.{deleted-sound, deleted-length, deleted-stored, deleted-gone}
-use Rattle.rule.proofs.Stored.{stored-apart, stored-count}
+use Rattle.kinds.specs.declared.Limits.{Limits}
+use Rattle.kinds.specs.declared.Outcome.{Outcome}
+use Rattle.kinds.specs.declared.Pair.{Pair}
+use Rattle.pools.specs.Cells.{slotsOf, freeOf, stored}
+use Rattle.pools.specs.Laid.{inserted, deleted}
+use Rattle.plain.specs.Plain.{hasX, has, Alike, Differs, Apart}
+use Rattle.kinds.specs.Refusals.{leftBy}
+use Rattle.pools.specs.Sound.{Sound, Chain, ends, next}
+use Rattle.kinds.proofs.Tests.{on, clash}
+use Rattle.plain.proofs.Counts.{those-count}
+use Rattle.plain.proofs.Those.{those-all, those-mem, those-apart}
+use Rattle.pools.proofs.Decided.{true-pool, sound-test}
+use Rattle.pools.proofs.Fresh.{fresh-sound, fresh-stored, fresh-slots}
+use Rattle.plain.proofs.Having.{hasX-true, true-hasX, has-true, true-has}
+use Rattle.pools.proofs.Inserted.{inserted-sound, inserted-length, inserted-stored}
+use Rattle.pools.proofs.Deleted.{deleted-sound, deleted-length, deleted-stored, deleted-gone}
+use Rattle.pools.proofs.Stored.{stored-apart, stored-count}
 use Rattle.sound.proofs.Meaning.{check-sound, set-up-done}
 use Rattle.pool.specs.Changing.{insertion, deletion}
 use Rattle.pool.proofs.Views.{new-of, has-mem}

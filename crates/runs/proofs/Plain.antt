@@ -5,22 +5,22 @@ use mathlib.Core.Bool.{cond}
 use mathlib.Core.List.{List, map}
 use lib.Dec.{ltb}
 use lib.ListN.{length, length-take}
-use Rattle.rule.specs.declared.Limits.{Limits}
-use Rattle.rule.specs.declared.Outcome.{Outcome}
-use Rattle.rule.specs.declared.Outcome.the-variants.{Listed, Refused}
-use Rattle.rule.specs.declared.Pair.{Pair}
-use Rattle.rule.specs.Cells.{stored}
-use Rattle.rule.specs.Codes as codes
-use Rattle.rule.specs.Plain.{matches, those, smallestXOf, largestXOf, smallestYOf, Alike}
-use Rattle.rule.specs.Refusals.{answerBy, leftBy}
-use Rattle.rule.specs.Sound.{Sound}
-use Rattle.rule.specs.Tree.{members, Apart}
-use Rattle.rule.specs.Walks.{roomOf}
-use Rattle.rule.proofs.Tests.{on}
-use Rattle.rule.proofs.Counts.{those-count}
-use Rattle.rule.proofs.Decided.{true-pool, sound-test}
-use Rattle.rule.proofs.Scan.{smallestXOf-alike, largestXOf-alike, smallestYOf-alike}
-use Rattle.rule.proofs.Stored.{stored-apart}
+use Rattle.kinds.specs.declared.Limits.{Limits}
+use Rattle.kinds.specs.declared.Outcome.{Outcome}
+use Rattle.kinds.specs.declared.Outcome.the-variants.{Listed, Refused}
+use Rattle.kinds.specs.declared.Pair.{Pair}
+use Rattle.pools.specs.Cells.{stored}
+use Rattle.kinds.specs.Codes as codes
+use Rattle.plain.specs.Plain.{matches, those, smallestXOf, largestXOf, smallestYOf, Alike, Apart}
+use Rattle.kinds.specs.Refusals.{answerBy, leftBy}
+use Rattle.pools.specs.Sound.{Sound}
+use Rattle.trees.specs.Tree.{members}
+use Rattle.walks.specs.Walks.{roomOf}
+use Rattle.kinds.proofs.Tests.{on}
+use Rattle.plain.proofs.Counts.{those-count}
+use Rattle.pools.proofs.Decided.{true-pool, sound-test}
+use Rattle.plain.proofs.Scan.{smallestXOf-alike, largestXOf-alike, smallestYOf-alike}
+use Rattle.pools.proofs.Stored.{stored-apart}
 use Rattle.pool.specs.Asking.{treeOf, outcomeOf, smallestXAnswer, largestXAnswer, smallestYAnswer, matchesOf, listingLeft}
 use Rattle.pool.proofs.Shown.{members-stored, members-apart}
 

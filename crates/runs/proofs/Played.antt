@@ -2,9 +2,9 @@
 use Prim.Native.Nat.{ℕ}
 use mathlib.Core.Path.{refl}
 use mathlib.Core.List.{List, [], _∷_}
-use Rattle.rule.specs.Cells.{slotsOf, stored}
-use Rattle.rule.specs.Sound.{Sound}
-use Rattle.rule.proofs.Stored.{stored-apart}
+use Rattle.pools.specs.Cells.{slotsOf, stored}
+use Rattle.pools.specs.Sound.{Sound}
+use Rattle.pools.proofs.Stored.{stored-apart}
 use Rattle.runs.specs.Calls.{Call, set-up, check, insert, delete, smallest-x, largest-x, smallest-y, list, opens, closes, first, last, earliest, covers, meets, contains, save, Each}
 use Rattle.runs.specs.Playing.{play, Book, plainly, playAll, plainlyAll, SmallX, Same, Ends, Agrees}
 use Rattle.runs.proofs.Ends.{set-up-ends, check-ends, insert-ends, delete-ends, smallestX-ends, largestX-ends, smallestY-ends, listing-ends, save-ends}

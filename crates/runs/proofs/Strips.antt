@@ -4,12 +4,12 @@ use mathlib.Core.Path.{_≡_, refl}
 use mathlib.Core.Bool.{true, false, _||_}
 use mathlib.Core.List.{List, [], _∷_}
 use borrow.Author.Tests.{ltb-false}
-use Rattle.rule.specs.declared.Answer.{Answer}
-use Rattle.rule.specs.declared.Outcome.the-variants.{Refused}
-use Rattle.rule.specs.Answer.{refused}
-use Rattle.rule.specs.Refusals.{Line, answerBy, Left, leftBy}
-use Rattle.rule.proofs.Tests.{on}
-use Rattle.rule.proofs.Decided.{true-pool, sound-test}
+use Rattle.kinds.specs.declared.Answer.{Answer}
+use Rattle.kinds.specs.declared.Outcome.the-variants.{Refused}
+use Rattle.kinds.specs.Answer.{refused}
+use Rattle.kinds.specs.Refusals.{Line, answerBy, Left, leftBy}
+use Rattle.kinds.proofs.Tests.{on}
+use Rattle.pools.proofs.Decided.{true-pool, sound-test}
 use Rattle.sound.specs.Promises.{lengthLine, soundLine}
 use Rattle.pool.specs.Asking.{smallestXAnswer, largestXAnswer, smallestYAnswer}
 use Rattle.strips.specs.Promises.{stripLine, orderLine, opening, closing, firstToEnd, lastToEnd, earliestStart, listCovers, listMeets, listContains}

@@ -3,15 +3,15 @@ use Prim.Native.Nat.{ℕ, _<_}
 use mathlib.Core.Path.{_≡_, refl, ap, _∙_}
 use mathlib.Core.Bool.{true, false, cond}
 use mathlib.Core.List.{List, [], _∷_}
-use Rattle.rule.specs.declared.Pair.{Pair}
-use Rattle.rule.specs.Answer.{five, numbersOf, finished}
-use Rattle.rule.specs.Cells.{stored}
-use Rattle.rule.specs.Laid.{inserted, deleted}
-use Rattle.rule.proofs.Tests.{on, clash}
-use Rattle.rule.proofs.Having.{true-hasX}
-use Rattle.rule.proofs.Inserted.{inserted-sound}
-use Rattle.rule.proofs.Deleted.{deleted-sound}
-use Rattle.rule.proofs.TakenBack.{inserted-back, inserted-has, deleted-back, deleted-new, deleted-room}
+use Rattle.kinds.specs.declared.Pair.{Pair}
+use Rattle.kinds.specs.Answer.{five, numbersOf, finished}
+use Rattle.pools.specs.Cells.{stored}
+use Rattle.pools.specs.Laid.{inserted, deleted}
+use Rattle.kinds.proofs.Tests.{on, clash}
+use Rattle.plain.proofs.Having.{true-hasX}
+use Rattle.pools.proofs.Inserted.{inserted-sound}
+use Rattle.pools.proofs.Deleted.{deleted-sound}
+use Rattle.pools.proofs.TakenBack.{inserted-back, inserted-has, deleted-back, deleted-new, deleted-room}
 use Rattle.pool.specs.Changing.{insertion, deletion, accepted}
 use Rattle.pool.proofs.Views.{of-new, insertion-view, deletion-view, insertion-made, deletion-made}
 use Rattle.pool.proofs.Changes.{accepted-made, refused-same, insertion-stored, deletion-stored, deletion-gone}

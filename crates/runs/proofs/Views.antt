@@ -5,10 +5,10 @@ use mathlib.Core.Logic.{_≢_}
 use mathlib.Core.Bool.{true, false}
 use mathlib.Core.List.{List, [], _∷_}
 use native.Mathlib.Omega.{arith}
-use Rattle.rule.specs.Laid.{inserted, deleted}
-use Rattle.rule.specs.Refusals.{Line, Left, leftBy}
-use Rattle.rule.specs.Test.{isPool, isSound}
-use Rattle.rule.proofs.Tests.{on}
+use Rattle.pools.specs.Laid.{inserted, deleted}
+use Rattle.kinds.specs.Refusals.{Line, Left, leftBy}
+use Rattle.pools.specs.Test.{isPool, isSound}
+use Rattle.kinds.proofs.Tests.{on}
 use Rattle.sound.specs.Promises.{lengthLine, soundLine}
 use Rattle.pool.proofs.Views.{Does, refuses, makes, insertion-view, deletion-view}
 use Rattle.strips.specs.Promises.{stripLine, opening, closing}

@@ -5,18 +5,17 @@ use mathlib.Core.Bool.{cond, not, _&&_, _||_}
 use mathlib.Core.List.{List, [], _∷_, map}
 use lib.Dec.{ltb, leb, eqb}
 use lib.ListN.{length}
-use Rattle.rule.specs.declared.Limits.{Limits}
-use Rattle.rule.specs.declared.Outcome.{Outcome}
-use Rattle.rule.specs.declared.Outcome.the-variants.{Listed, Refused}
-use Rattle.rule.specs.declared.Pair.{Pair}
-use Rattle.rule.specs.Answer.{finished}
-use Rattle.rule.specs.Cells.{slotsOf, stored}
-use Rattle.rule.specs.Codes as codes
-use Rattle.rule.specs.Plain.{matches, those, smallestXOf, largestXOf, smallestYOf, Alike, hasX, has}
-use Rattle.rule.specs.Refusals.{Line}
-use Rattle.rule.specs.Sound.{Sound}
-use Rattle.rule.specs.Tree.{Apart}
-use Rattle.rule.specs.Walks.{roomOf}
+use Rattle.kinds.specs.declared.Limits.{Limits}
+use Rattle.kinds.specs.declared.Outcome.{Outcome}
+use Rattle.kinds.specs.declared.Outcome.the-variants.{Listed, Refused}
+use Rattle.kinds.specs.declared.Pair.{Pair}
+use Rattle.kinds.specs.Answer.{finished}
+use Rattle.pools.specs.Cells.{slotsOf, stored}
+use Rattle.kinds.specs.Codes as codes
+use Rattle.plain.specs.Plain.{matches, those, smallestXOf, largestXOf, smallestYOf, Alike, hasX, has, Apart}
+use Rattle.kinds.specs.Refusals.{Line}
+use Rattle.pools.specs.Sound.{Sound}
+use Rattle.walks.specs.Walks.{roomOf}
 use Rattle.pool.specs.Asking.{backwardsLine, outcomeOf}
 use Rattle.strips.specs.Promises.{stripLine, orderLine}
 use Rattle.strips.specs.Strips.{over, coversLimits, lastLimits, meetsLimits, containsLimits}

@@ -4,9 +4,9 @@ use mathlib.Core.Bool.{Bool, true, false, cond, _&&_}
 use mathlib.Core.Path.{_≡_}
 use mathlib.Core.Logic.{_↔_, _⊎_}
 use mathlib.Core.List.{List, [], _∷_, List·Memᴰ}
-use Rattle.rule.specs.declared.Pair.{Pair}
-use Rattle.rule.specs.Cells.{stored}
-use Rattle.rule.specs.Refusals.{Left}
+use Rattle.kinds.specs.declared.Pair.{Pair}
+use Rattle.pools.specs.Cells.{stored}
+use Rattle.kinds.specs.Refusals.{Left}
 use Rattle.pool.specs.Changing.{accepted, insertion, deletion}
 use Rattle.strips.specs.Promises.{opening, closing}
 use Rattle.runs.specs.Calls.{Named, pairOf}

@@ -7,13 +7,13 @@ use native.Mathlib.Omega.{arith}
 use lib.Dec.{ltb}
 use lib.ListN.{length, drop, length-append, length-drop}
 use borrow.Author.Tests.{ltb-true, ltb-false, lt-ltb, le-ltb}
-use Rattle.rule.proofs.Tests.{on}
-use Rattle.rule.specs.declared.Answer.{Answer}
-use Rattle.rule.specs.declared.Five.{Five}
-use Rattle.rule.specs.Answer.{five}
-use Rattle.rule.specs.Codes as codes
-use Rattle.rule.specs.Refusals.{Left, Leaves}
-use Rattle.rule.proofs.Placing.{placed-start}
+use Rattle.kinds.proofs.Tests.{on}
+use Rattle.kinds.specs.declared.Answer.{Answer}
+use Rattle.kinds.specs.declared.Five.{Five}
+use Rattle.kinds.specs.Answer.{five}
+use Rattle.kinds.specs.Codes as codes
+use Rattle.kinds.specs.Refusals.{Left, Leaves}
+use Rattle.kinds.proofs.Placing.{placed-start}
 use Rattle.strips.specs.Promises.{opening, closing, firstToEnd, lastToEnd, listCovers}
 use Rattle.line.specs.declared.Asked.{Asked}
 use Rattle.line.specs.declared.Asked.the-variants.{Open, Close, First, Last, Covers, Malformed}

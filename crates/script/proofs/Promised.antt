@@ -2,7 +2,7 @@
 use Prim.Native.Nat.{ℕ}
 use mathlib.Core.Path.{_≡_}
 use mathlib.Core.List.{List}
-use Rattle.rule.proofs.Promised.{one-answer}
+use Rattle.kinds.proofs.Promised.{one-answer}
 use Rattle.script.specs.declared.Told.{Told}
 use Rattle.script.specs.Script.{After, Answers}
 

@@ -7,7 +7,7 @@ use native.Mathlib.Omega.{arith}
 use lib.Dec.{eqb, ltb}
 use lib.ListN.{length, length-append}
 use borrow.Author.Tests.{eqb-true, eqb-false, ne-eqb, le-ltb}
-use Rattle.rule.proofs.Tests.{on, both, and-true}
+use Rattle.kinds.proofs.Tests.{on, both, and-true}
 use Rattle.line.specs.declared.Asked.{Asked}
 use Rattle.line.specs.declared.Asked.the-variants.{Open, Close, First, Last, Covers, Malformed}
 use Rattle.line.specs.Line.{space, led, words, isDigit, allDigits, value, isNumber, allNumbers, meant, byWords, askedBy}

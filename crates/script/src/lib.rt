@@ -1,7 +1,7 @@
 // A line of the script: it is read, done and answered. Nothing here reads or writes a file.
+use kinds::Answer;
+use kinds::codes;
 use line::Asked;
-use rule::Answer;
-use rule::codes;
 ghost use Prim.Native.Nat.{_+_, _*_, _/_, _≤_};
 ghost use mathlib.Core.Path.{_≡_};
 ghost use mathlib.Core.List.{[], _∷_};

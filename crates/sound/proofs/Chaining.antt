@@ -4,9 +4,9 @@ use mathlib.Core.Path.{_≡_}
 use mathlib.Core.List.{List}
 use native.Mathlib.Omega.{arith}
 use native.Mathlib.Numerals.{add-one}
-use Rattle.rule.specs.Cells.{slotsOf, putFree, putHeader, fresh}
-use Rattle.rule.specs.Sound.{Pool}
-use Rattle.rule.proofs.Fresh.{chained, chained-fresh}
+use Rattle.pools.specs.Cells.{slotsOf, putFree, putHeader, fresh}
+use Rattle.pools.specs.Sound.{Pool}
+use Rattle.pools.proofs.Fresh.{chained, chained-fresh}
 
 pub turn : (c d : List ℕ) (s n : ℕ) → s < n → d ≡ putFree c s (s + 1) → chained d (s + 1) (suc (n - (s + 1))) ≡ chained c s (suc (n - s))
 unfolding chained

@@ -3,7 +3,7 @@ use Prim.Native.Nat.{ℕ}
 use mathlib.Core.Path.{_≡_, refl, sym, _∙_}
 use mathlib.Core.Bool.{Bool, true, false, cond}
 use mathlib.Core.List.{List}
-use Rattle.rule.specs.Test.{isPool, isSound}
+use Rattle.pools.specs.Test.{isPool, isSound}
 use Rattle.sound.specs.declared.Health.{Health}
 use Rattle.sound.specs.declared.Health.the-variants.{Sound, Unsound, WrongLength}
 use Rattle.sound.specs.Promises.{healthOf}

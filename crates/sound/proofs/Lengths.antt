@@ -7,9 +7,9 @@ use native.Mathlib.Omega.{arith}
 use lib.Dec.{leb, eqb}
 use lib.ListN.{length}
 use borrow.Author.Tests.{eq-eqb, ne-eqb, le-leb, lt-leb, leb-true, leb-false}
-use Rattle.rule.specs.Cells.{perSlot, slotsOf}
-use Rattle.rule.specs.Test.{isPool}
-use Rattle.rule.proofs.Tests.{on, and-false}
+use Rattle.pools.specs.Cells.{perSlot, slotsOf}
+use Rattle.pools.specs.Test.{isPool}
+use Rattle.kinds.proofs.Tests.{on, and-false}
 
 module _ (c : List ℕ) where
   pub odd : (length c % perSlot ≡ 0 → ⊥) → false ≡ isPool c

@@ -2,12 +2,12 @@
 use Prim.Native.Nat.{ℕ}
 use mathlib.Core.Path.{_≡_, refl}
 use mathlib.Core.List.{List, _∷_}
-use Rattle.rule.specs.declared.Answer.{Answer}
-use Rattle.rule.specs.Answer.{refused}
-use Rattle.rule.specs.Codes.{wrongLength, unsound}
-use Rattle.rule.specs.Refusals.{Line, answerBy, Left, leftBy, Leaves}
-use Rattle.rule.specs.Sound.{Sound}
-use Rattle.rule.proofs.Decided.{true-pool, test-sound, sound-test}
+use Rattle.kinds.specs.declared.Answer.{Answer}
+use Rattle.kinds.specs.Answer.{refused}
+use Rattle.kinds.specs.Codes.{wrongLength, unsound}
+use Rattle.kinds.specs.Refusals.{Line, answerBy, Left, leftBy, Leaves}
+use Rattle.pools.specs.Sound.{Sound}
+use Rattle.pools.proofs.Decided.{true-pool, test-sound, sound-test}
 use Rattle.sound.specs.declared.Health.{Health}
 use Rattle.sound.specs.declared.Health.the-variants.{Sound as well, Unsound as ill, WrongLength as odd}
 use Rattle.sound.specs.Promises.{healthOf, lengthLine, soundLine}

@@ -5,15 +5,15 @@ use mathlib.Core.Logic.{_↔_}
 use mathlib.Core.Bool.{true, false}
 use mathlib.Core.List.{List, []}
 use native.Mathlib.Omega.{arith}
-use Rattle.rule.specs.Answer.{five, numbersOf, finished, refused}
-use Rattle.rule.specs.Cells.{slotsOf, stored, fresh}
-use Rattle.rule.specs.Codes.{wrongLength, unsound}
-use Rattle.rule.specs.Refusals.{answerBy, leftBy}
-use Rattle.rule.specs.Sound.{Pool, Sound}
-use Rattle.rule.specs.Test.{isPool, isSound}
-use Rattle.rule.proofs.Tests.{on, clash}
-use Rattle.rule.proofs.Decided.{pool-true, true-pool, test-sound, sound-test}
-use Rattle.rule.proofs.Fresh.{fresh-sound, fresh-stored}
+use Rattle.kinds.specs.Answer.{five, numbersOf, finished, refused}
+use Rattle.pools.specs.Cells.{slotsOf, stored, fresh}
+use Rattle.kinds.specs.Codes.{wrongLength, unsound}
+use Rattle.kinds.specs.Refusals.{answerBy, leftBy}
+use Rattle.pools.specs.Sound.{Pool, Sound}
+use Rattle.pools.specs.Test.{isPool, isSound}
+use Rattle.kinds.proofs.Tests.{on, clash}
+use Rattle.pools.proofs.Decided.{pool-true, true-pool, test-sound, sound-test}
+use Rattle.pools.proofs.Fresh.{fresh-sound, fresh-stored}
 use Rattle.sound.specs.Promises.{lengthLine, soundLine, setUp, checked}
 
 -- answers with different codes differ

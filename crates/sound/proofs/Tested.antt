@@ -8,16 +8,17 @@ use native.Mathlib.Omega.{arith}
 use lib.Dec.{ltb, leb, eqb}
 use lib.ListN.{length, length-append}
 use borrow.Author.Tests.{eqb-false, leb-true, ltb-true}
-use Rattle.rule.specs.declared.Pair.{Pair}
-use Rattle.rule.specs.Pairs.{Beats, beats}
-use Rattle.rule.specs.Stripe.{Stripe, In, holds, rootStripe, leftPart, rightPart}
-use Rattle.rule.specs.Tree.{Apart}
-use Rattle.rule.specs.Cells.{slotsOf, rootOf, pairAt, leftAt, rightAt}
-use Rattle.rule.specs.Sound.{Slot, lowLevels}
-use Rattle.rule.specs.Test.{slotFine, fine}
-use Rattle.rule.proofs.Tests.{on, both}
-use Rattle.rule.proofs.Order.{beats-true, beats-asym, beats-trans}
-use Rattle.rule.proofs.Pigeonhole.{differs-not, apart-join, at-most}
+use Rattle.kinds.specs.declared.Pair.{Pair}
+use Rattle.kinds.specs.Pairs.{Beats, beats}
+use Rattle.kinds.specs.Stripe.{Stripe, In, holds, rootStripe, leftPart, rightPart, lowLevels}
+use Rattle.plain.specs.Plain.{Apart}
+use Rattle.pools.specs.Cells.{slotsOf, rootOf, pairAt, leftAt, rightAt}
+use Rattle.pools.specs.Sound.{Slot}
+use Rattle.pools.specs.Test.{slotFine, fine}
+use Rattle.kinds.proofs.Tests.{on, both}
+use Rattle.kinds.proofs.Order.{beats-true, beats-asym, beats-trans}
+use Rattle.plain.proofs.Apart.{differs-not, apart-join}
+use Rattle.pools.proofs.Pigeonhole.{at-most}
 use Rattle.sound.specs.Tested.{inTurn, tested, testedBelow, testedSlots}
 
 module _ (c : List ℕ) where

@@ -5,11 +5,12 @@ use mathlib.Core.Bool.{Bool, true, false, _&&_}
 use mathlib.Core.List.{List}
 use lib.Dec.{eqb}
 use borrow.Author.Tests.{eq-eqb, ne-eqb}
-use Rattle.rule.specs.Tree.{size}
-use Rattle.rule.specs.Cells.{markOf, rootOf, treeAt}
-use Rattle.rule.specs.Sound.{Pool, allLevels}
-use Rattle.rule.specs.Test.{rootFine, restFine, isSound}
-use Rattle.rule.proofs.Decided.{true-pool}
+use Rattle.trees.specs.Tree.{size}
+use Rattle.pools.specs.Cells.{markOf, rootOf, treeAt}
+use Rattle.pools.specs.Sound.{Pool}
+use Rattle.kinds.specs.Stripe.{allLevels}
+use Rattle.pools.specs.Test.{rootFine, restFine, isSound}
+use Rattle.pools.proofs.Decided.{true-pool}
 use Rattle.tree.specs.declared.Checked.{Checked}
 use Rattle.tree.specs.declared.Checked.the-variants.{Counted, Faulty}
 use Rattle.chain.specs.declared.Verdict.{Verdict}

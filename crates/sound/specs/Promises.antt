@@ -2,12 +2,12 @@
 use Prim.Native.Nat.{ℕ}
 use mathlib.Core.Bool.{cond, not}
 use mathlib.Core.List.{List, [], _∷_}
-use Rattle.rule.specs.declared.Answer.{Answer}
-use Rattle.rule.specs.Answer.{finished}
-use Rattle.rule.specs.Cells.{slotsOf, fresh}
-use Rattle.rule.specs.Codes.{wrongLength, unsound}
-use Rattle.rule.specs.Refusals.{Line, answerBy, Left, leftBy}
-use Rattle.rule.specs.Test.{isPool, isSound}
+use Rattle.kinds.specs.declared.Answer.{Answer}
+use Rattle.kinds.specs.Answer.{finished}
+use Rattle.pools.specs.Cells.{slotsOf, fresh}
+use Rattle.kinds.specs.Codes.{wrongLength, unsound}
+use Rattle.kinds.specs.Refusals.{Line, answerBy, Left, leftBy}
+use Rattle.pools.specs.Test.{isPool, isSound}
 use Rattle.sound.specs.declared.Health.{Health}
 use Rattle.sound.specs.declared.Health.the-variants.{Sound, Unsound, WrongLength}
 

@@ -3,12 +3,11 @@ use Prim.Native.Nat.{ℕ, zero, suc, _+_}
 use mathlib.Core.Bool.{Bool, cond, _&&_}
 use mathlib.Core.List.{List}
 use lib.Dec.{eqb}
-use Rattle.rule.specs.declared.Pair.{Pair}
-use Rattle.rule.specs.Pairs.{beats}
-use Rattle.rule.specs.Stripe.{Stripe, rootStripe, leftPart, rightPart}
-use Rattle.rule.specs.Cells.{rootOf, pairAt, leftAt, rightAt}
-use Rattle.rule.specs.Sound.{lowLevels}
-use Rattle.rule.specs.Test.{slotFine, fine}
+use Rattle.kinds.specs.declared.Pair.{Pair}
+use Rattle.kinds.specs.Pairs.{beats}
+use Rattle.kinds.specs.Stripe.{Stripe, rootStripe, leftPart, rightPart, lowLevels}
+use Rattle.pools.specs.Cells.{rootOf, pairAt, leftAt, rightAt}
+use Rattle.pools.specs.Test.{slotFine, fine}
 
 -- those on the left, and those on the right only where all is fine on the left
 abbrev pub inTurn : Bool → ℕ → ℕ → ℕ

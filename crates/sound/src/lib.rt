@@ -1,16 +1,16 @@
 // Set up and check: the two calls that accept any cells at all.
 use chain::Verdict;
-use rule::Answer;
-use rule::Outcome;
-use rule::codes;
+use kinds::Answer;
+use kinds::Outcome;
+use kinds::codes;
 use tree::Checked;
 ghost use mathlib.Core.Path.{_≡_};
 ghost use Prim.Native.Nat.{_+_, _*_, _-_, _<_};
-ghost use Rattle.rule.specs.Answer.{finished, refused, ended};
-ghost use Rattle.rule.specs.Cells.{slotsOf, fresh};
-ghost use Rattle.rule.specs.Refusals.{Leaves};
-ghost use Rattle.rule.specs.Sound.{Pool};
-ghost use Rattle.rule.specs.Test.{isPool, isSound};
+ghost use Rattle.kinds.specs.Answer.{finished, refused, ended};
+ghost use Rattle.pools.specs.Cells.{slotsOf, fresh};
+ghost use Rattle.kinds.specs.Refusals.{Leaves};
+ghost use Rattle.pools.specs.Sound.{Pool};
+ghost use Rattle.pools.specs.Test.{isPool, isSound};
 ghost use Rattle.sound.specs.Promises.{setUp, checked, healthOf};
 
 // The answer of a call that is done.

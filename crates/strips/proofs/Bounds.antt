@@ -1,8 +1,8 @@
 -- The bounds on visits, over the strip calls: for every pool and all numbers.
 use Prim.Native.Nat.{ℕ, _+_, _*_, _≤_}
 use mathlib.Core.List.{List}
-use Rattle.rule.specs.Answer.{five}
-use Rattle.rule.proofs.Visits.{smallestX-visits, largestX-visits, smallestY-visits}
+use Rattle.kinds.specs.Answer.{five}
+use Rattle.walks.proofs.Visits.{smallestX-visits, largestX-visits, smallestY-visits}
 use Rattle.pool.specs.Asking.{treeOf}
 use Rattle.pool.specs.Showing.{FewVisits}
 use Rattle.pool.proofs.Bounds.{tree-well, table-bound, listed-bound}

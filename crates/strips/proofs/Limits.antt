@@ -6,10 +6,10 @@ use mathlib.Core.Bool.{true}
 use native.Mathlib.Omega.{arith}
 use lib.Dec.{leb}
 use borrow.Author.Tests.{le-leb, leb-true}
-use Rattle.rule.specs.declared.Limits.{Limits}
-use Rattle.rule.specs.declared.Pair.{Pair}
-use Rattle.rule.specs.Plain.{inRange, matches}
-use Rattle.rule.proofs.Tests.{both}
+use Rattle.kinds.specs.declared.Limits.{Limits}
+use Rattle.kinds.specs.declared.Pair.{Pair}
+use Rattle.plain.specs.Plain.{inRange, matches}
+use Rattle.kinds.proofs.Tests.{both}
 use Rattle.strips.specs.Strips.{endOf, Covers, Meets, Contains, coversLimits, lastLimits, meetsLimits, containsLimits}
 
 pub record Inside (q : Limits) (p : Pair) : Type 0 where

@@ -7,22 +7,22 @@ use mathlib.Core.List.{List, List·Memᴰ}
 use native.Mathlib.Omega.{arith}
 use lib.Dec.{ltb}
 use borrow.Author.Tests.{ltb-true, ltb-false, le-ltb}
-use Rattle.rule.specs.declared.Finding.{Finding}
-use Rattle.rule.specs.declared.Finding.the-variants.{Found as found-pair, Nothing as no-pair}
-use Rattle.rule.specs.declared.Limits.{Limits}
-use Rattle.rule.specs.declared.Outcome.the-variants.{Found, Nothing}
-use Rattle.rule.specs.declared.Pair.{Pair}
-use Rattle.rule.specs.Cells.{stored}
-use Rattle.rule.specs.Pairs.{beats, lower}
-use Rattle.rule.specs.Plain.{matches, smallestXOf, largestXOf, smallestYOf, Closest, NoMatch}
-use Rattle.rule.specs.Refusals.{answerBy, Left}
-use Rattle.rule.specs.Sound.{Sound}
-use Rattle.rule.proofs.Tests.{on, clash, neither}
-use Rattle.rule.proofs.Decided.{true-pool, sound-test}
-use Rattle.rule.proofs.Order.{true-beats}
-use Rattle.rule.proofs.Scan.{smallestXOf-found, smallestXOf-nothing, largestXOf-found, largestXOf-nothing, smallestYOf-found, smallestYOf-nothing}
-use Rattle.rule.proofs.Stored.{stored-mem, stored-apart}
-use Rattle.rule.proofs.TakenBack.{member-low}
+use Rattle.kinds.specs.declared.Finding.{Finding}
+use Rattle.kinds.specs.declared.Finding.the-variants.{Found as found-pair, Nothing as no-pair}
+use Rattle.kinds.specs.declared.Limits.{Limits}
+use Rattle.kinds.specs.declared.Outcome.the-variants.{Found, Nothing}
+use Rattle.kinds.specs.declared.Pair.{Pair}
+use Rattle.pools.specs.Cells.{stored}
+use Rattle.kinds.specs.Pairs.{beats, lower}
+use Rattle.plain.specs.Plain.{matches, smallestXOf, largestXOf, smallestYOf, Closest, NoMatch}
+use Rattle.kinds.specs.Refusals.{answerBy, Left}
+use Rattle.pools.specs.Sound.{Sound}
+use Rattle.kinds.proofs.Tests.{on, clash, neither}
+use Rattle.pools.proofs.Decided.{true-pool, sound-test}
+use Rattle.kinds.proofs.Order.{true-beats}
+use Rattle.plain.proofs.Scan.{smallestXOf-found, smallestXOf-nothing, largestXOf-found, largestXOf-nothing, smallestYOf-found, smallestYOf-nothing}
+use Rattle.pools.proofs.Stored.{stored-mem, stored-apart}
+use Rattle.pools.proofs.TakenBack.{member-low}
 use Rattle.pool.specs.Asking.{outcomeOf, listingLeft}
 use Rattle.pool.specs.Showing.{Shows}
 use Rattle.pool.proofs.Shown.{listing-shows}

@@ -6,12 +6,12 @@ use mathlib.Core.List.{List, [], _∷_}
 use native.Mathlib.Omega.{arith}
 use lib.Dec.{ltb}
 use borrow.Author.Tests.{ltb-false, ltb-true, le-ltb, lt-ltb}
-use Rattle.rule.specs.declared.Answer.{Answer}
-use Rattle.rule.specs.declared.Limits.{Limits}
-use Rattle.rule.specs.Answer.{refused}
-use Rattle.rule.specs.Refusals.{Line, answerBy, Left, leftBy, Leaves}
-use Rattle.rule.specs.Test.{isPool, isSound}
-use Rattle.rule.proofs.Tests.{on, neither}
+use Rattle.kinds.specs.declared.Answer.{Answer}
+use Rattle.kinds.specs.declared.Limits.{Limits}
+use Rattle.kinds.specs.Answer.{refused}
+use Rattle.kinds.specs.Refusals.{Line, answerBy, Left, leftBy, Leaves}
+use Rattle.pools.specs.Test.{isPool, isSound}
+use Rattle.kinds.proofs.Tests.{on, neither}
 use Rattle.sound.specs.Promises.{lengthLine, soundLine}
 use Rattle.pool.specs.Asking.{smallestXAnswer, largestXAnswer, smallestYAnswer, listingLeft}
 use Rattle.pool.specs.Changing.{insertion, deletion}

@@ -3,17 +3,17 @@ use Prim.Native.Nat.{ℕ, _+_, _*_}
 use mathlib.Core.Bool.{Bool, _||_}
 use mathlib.Core.List.{List, [], _∷_}
 use lib.Dec.{ltb}
-use Rattle.rule.specs.declared.Answer.{Answer}
-use Rattle.rule.specs.declared.Limits.{Limits}
-use Rattle.rule.specs.declared.Pair.{Pair}
-use Rattle.rule.specs.Answer.{finished}
-use Rattle.rule.specs.Cells.{stored}
-use Rattle.rule.specs.Codes as codes
-use Rattle.rule.specs.Laid.{inserted, deleted}
-use Rattle.rule.specs.Plain.{smallestXOf, largestXOf, smallestYOf}
-use Rattle.rule.specs.Refusals.{Line, answerBy, Left, leftBy}
-use Rattle.rule.specs.Stripe.{rootStripe}
-use Rattle.rule.specs.Walks.{smallestX, largestX, smallestY}
+use Rattle.kinds.specs.declared.Answer.{Answer}
+use Rattle.kinds.specs.declared.Limits.{Limits}
+use Rattle.kinds.specs.declared.Pair.{Pair}
+use Rattle.kinds.specs.Answer.{finished}
+use Rattle.pools.specs.Cells.{stored}
+use Rattle.kinds.specs.Codes as codes
+use Rattle.pools.specs.Laid.{inserted, deleted}
+use Rattle.plain.specs.Plain.{smallestXOf, largestXOf, smallestYOf}
+use Rattle.kinds.specs.Refusals.{Line, answerBy, Left, leftBy}
+use Rattle.kinds.specs.Stripe.{rootStripe}
+use Rattle.walks.specs.Walks.{smallestX, largestX, smallestY}
 use Rattle.sound.specs.Promises.{lengthLine, soundLine}
 use Rattle.pool.specs.Changing.{takenLine, fullLine, missingLine, otherLine}
 use Rattle.pool.specs.Asking.{treeOf, answered, listedOf}

@@ -3,9 +3,9 @@ use Prim.Native.Nat.{ℕ, _≤_}
 use mathlib.Core.Path.{_≡_}
 use mathlib.Core.Bool.{false}
 use mathlib.Core.List.{List, List·Memᴰ}
-use Rattle.rule.specs.declared.Pair.{Pair}
-use Rattle.rule.specs.Cells as pool
-use Rattle.rule.specs.Pairs.{beats}
+use Rattle.kinds.specs.declared.Pair.{Pair}
+use Rattle.pools.specs.Cells as pool
+use Rattle.kinds.specs.Pairs.{beats}
 use Rattle.strips.specs.Strips.{endOf, numberOf, Covers}
 
 -- p ends before q, or with it and has a number no higher

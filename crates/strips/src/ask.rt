@@ -1,7 +1,7 @@
 // The questions for one strip.
 use super::shape;
-use rule::Answer;
-use rule::codes;
+use kinds::Answer;
+use kinds::codes;
 ghost use mathlib.Core.Path.{_≡_};
 ghost use Rattle.strips.specs.Promises.{firstToEnd, lastToEnd, earliestStart};
 

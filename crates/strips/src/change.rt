@@ -1,8 +1,8 @@
 // Opening and closing a strip.
 use super::shape;
-use rule::Answer;
-use rule::codes;
-ghost use Rattle.rule.specs.Refusals.{Leaves};
+use kinds::Answer;
+use kinds::codes;
+ghost use Rattle.kinds.specs.Refusals.{Leaves};
 ghost use Rattle.strips.specs.Promises.{opening, closing};
 
 // Opens a strip: its pair is stored.

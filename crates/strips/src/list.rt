@@ -1,8 +1,8 @@
 // The lists of strips, into a second lent slice.
 use super::shape;
-use rule::Answer;
-use rule::codes;
-ghost use Rattle.rule.specs.Refusals.{Leaves};
+use kinds::Answer;
+use kinds::codes;
+ghost use Rattle.kinds.specs.Refusals.{Leaves};
 ghost use Rattle.strips.specs.Promises.{listCovers, listMeets, listContains};
 
 // The strips that cover slot u.

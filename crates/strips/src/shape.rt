@@ -1,12 +1,12 @@
 // What the strip calls share.
-use rule::Answer;
-use rule::codes;
+use kinds::Answer;
+use kinds::codes;
 use sound::Health;
 ghost use mathlib.Core.Path.{_≡_};
 ghost use mathlib.Core.Bool.{_||_};
 ghost use mathlib.Core.List.{[], _∷_};
-ghost use Rattle.rule.specs.Answer.{refused as refusal};
-ghost use Rattle.rule.specs.Refusals.{answerBy};
+ghost use Rattle.kinds.specs.Answer.{refused as refusal};
+ghost use Rattle.kinds.specs.Refusals.{answerBy};
 ghost use Rattle.sound.specs.Promises.{lengthLine, soundLine};
 ghost use Rattle.strips.specs.Strips.{over, noStrip};
 

@@ -8,7 +8,7 @@ use native.Mathlib.Omega.{arith}
 use lib.Dec.{leb, eqb}
 use lib.ListN.{length, getD, length-append}
 use borrow.Author.Tests.{le-leb, lt-ltb, ne-eqb, eqb-true, eqb-false, leb-true, not-true}
-use Rattle.rule.proofs.Tests.{on, clash, both, all-four, and-true, and-false}
+use Rattle.kinds.proofs.Tests.{on, clash, both, all-four, and-true, and-false}
 use Rattle.line.specs.Line.{isDigit, allDigits, valueFrom, value, leadingZero, isNumber}
 use Rattle.line.proofs.Digits.{most, digit-range, value-grows}
 use Rattle.line.proofs.Words.{append-one}

@@ -5,9 +5,9 @@ use mathlib.Core.List.{List, [], _∷_, _++_}
 use native.Mathlib.Omega.{arith}
 use lib.ListN.{length, set, getD, length-append}
 use borrow.Author.Tests.{ne-eqb}
-use Rattle.rule.specs.Placed.{placed}
-use Rattle.rule.proofs.Placing.{length-placed, placed-append}
-use Rattle.rule.proofs.Tests.{on}
+use Rattle.kinds.specs.Placed.{placed}
+use Rattle.kinds.proofs.Placing.{length-placed, placed-append}
+use Rattle.kinds.proofs.Tests.{on}
 use lib.Dec.{eqb}
 use Rattle.line.specs.Line.{space}
 use Rattle.text.specs.Text.{newline, glyph, front, decimal, item, row, matchRows}

@@ -3,7 +3,7 @@ use Prim.Native.Nat.{ℕ, _+_, _/_, _%_}
 use mathlib.Core.Path.{_≡_}
 use mathlib.Core.List.{List, _++_}
 use lib.ListN.{length}
-use Rattle.rule.specs.Placed.{placed}
+use Rattle.kinds.specs.Placed.{placed}
 use Rattle.line.specs.Line.{space}
 use Rattle.text.specs.Text.{item}
 

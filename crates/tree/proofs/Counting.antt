@@ -7,15 +7,15 @@ use native.Mathlib.Omega.{arith}
 use lib.Pow.{pow-mono}
 use lib.Dec.{ltb}
 use borrow.Author.Tests.{eq-eqb, ne-eqb}
-use Rattle.rule.specs.declared.Pair.{Pair}
-use Rattle.rule.specs.Pairs.{beats}
-use Rattle.rule.specs.Stripe.{Stripe, Low, middle, leftPart, rightPart}
-use Rattle.rule.specs.Tree.{size}
-use Rattle.rule.specs.Changes.{met}
-use Rattle.rule.specs.Cells.{Fits, pairAt, leftAt, rightAt, treeAt}
-use Rattle.rule.specs.Test.{slotFine, alone, fine, below}
-use Rattle.rule.proofs.Leads.{back, tree-none, tree-fork, few}
-use Rattle.rule.proofs.Decided.{fine-true}
+use Rattle.kinds.specs.declared.Pair.{Pair}
+use Rattle.kinds.specs.Pairs.{beats}
+use Rattle.kinds.specs.Stripe.{Stripe, Low, middle, leftPart, rightPart}
+use Rattle.trees.specs.Tree.{size}
+use Rattle.trees.specs.Changes.{met}
+use Rattle.pools.specs.Cells.{Fits, pairAt, leftAt, rightAt, treeAt}
+use Rattle.pools.specs.Test.{slotFine, alone, fine, below}
+use Rattle.pools.proofs.Leads.{back, tree-none, tree-fork, few}
+use Rattle.pools.proofs.Decided.{fine-true}
 use Rattle.halving.specs.Sought.{Sought}
 use Rattle.tree.proofs.Places.{fine-fits}
 use Rattle.tree.specs.declared.Checked.{Checked}

@@ -7,13 +7,13 @@ use native.Mathlib.Omega.{arith}
 use lib.Dec.{leb}
 use lib.ListN.{length}
 use borrow.Author.Tests.{ne-eqb, le-leb, lt-leb, leb-true}
-use Rattle.rule.specs.declared.Pair.{Pair}
-use Rattle.rule.specs.Pairs.{beats}
-use Rattle.rule.specs.Stripe.{Stripe, holds}
-use Rattle.rule.specs.Cells.{perSlot, slotsOf, Fits, pairAt}
-use Rattle.rule.specs.Test.{slotFine, fine}
-use Rattle.rule.proofs.Tests.{both, and-false}
-use Rattle.rule.proofs.Leads.{back}
+use Rattle.kinds.specs.declared.Pair.{Pair}
+use Rattle.kinds.specs.Pairs.{beats}
+use Rattle.kinds.specs.Stripe.{Stripe, holds}
+use Rattle.pools.specs.Cells.{perSlot, slotsOf, Fits, pairAt}
+use Rattle.pools.specs.Test.{slotFine, fine}
+use Rattle.kinds.proofs.Tests.{both, and-false}
+use Rattle.pools.proofs.Leads.{back}
 
 module _ (c : List ℕ) (s : ℕ) (at : Stripe) where
   pub too-far : 1 ≤ s → length c / perSlot ≤ s → false ≡ slotFine c s at

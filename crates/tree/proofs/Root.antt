@@ -4,11 +4,10 @@ use mathlib.Core.Path.{_≡_, sym, _∙_}
 use mathlib.Core.Bool.{Bool, true, false}
 use mathlib.Core.List.{List}
 use borrow.Author.Tests.{eq-eqb, ne-eqb}
-use Rattle.rule.specs.Stripe.{Stripe, rootStripe}
-use Rattle.rule.specs.Cells.{rootOf}
-use Rattle.rule.specs.Sound.{lowLevels, allLevels}
-use Rattle.rule.specs.Test.{slotFine, rootFine}
-use Rattle.rule.proofs.Leads.{tree-none, tree-fork}
+use Rattle.kinds.specs.Stripe.{Stripe, rootStripe, lowLevels, allLevels}
+use Rattle.pools.specs.Cells.{rootOf}
+use Rattle.pools.specs.Test.{slotFine, rootFine}
+use Rattle.pools.proofs.Leads.{tree-none, tree-fork}
 use Rattle.tree.specs.declared.Checked.{Checked}
 use Rattle.tree.specs.declared.Checked.the-variants.{Counted, Faulty}
 use Rattle.tree.specs.Checked.{fromSlot, fromRoot}

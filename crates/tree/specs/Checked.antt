@@ -3,13 +3,12 @@ use Prim.Native.Nat.{ℕ, _+_}
 use mathlib.Core.Path.{_≡_}
 use mathlib.Core.Bool.{Bool, true, false, cond}
 use mathlib.Core.List.{List}
-use Rattle.rule.specs.declared.Pair.{Pair}
-use Rattle.rule.specs.Pairs.{beats}
-use Rattle.rule.specs.Stripe.{Stripe}
-use Rattle.rule.specs.Tree.{size}
-use Rattle.rule.specs.Cells.{rootOf, pairAt, leftAt, rightAt, treeAt}
-use Rattle.rule.specs.Sound.{allLevels}
-use Rattle.rule.specs.Test.{slotFine, fine, below, rootFine}
+use Rattle.kinds.specs.declared.Pair.{Pair}
+use Rattle.kinds.specs.Pairs.{beats}
+use Rattle.kinds.specs.Stripe.{Stripe, allLevels}
+use Rattle.trees.specs.Tree.{size}
+use Rattle.pools.specs.Cells.{rootOf, pairAt, leftAt, rightAt, treeAt}
+use Rattle.pools.specs.Test.{slotFine, fine, below, rootFine}
 use Rattle.tree.specs.declared.Checked.{Checked}
 use Rattle.tree.specs.declared.Checked.the-variants.{Counted, Faulty}
 use Rattle.tree.specs.declared.Place.{Place}

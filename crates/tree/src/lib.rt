@@ -1,14 +1,14 @@
 // The tree part of the check. A slot is tested before anything below it is looked at.
-use rule::Pair;
-use rule::Stripe;
+use kinds::Pair;
+use kinds::Stripe;
 ghost use mathlib.Core.Path.{_≡_};
 ghost use mathlib.Core.Bool.{not};
 ghost use Prim.Native.Nat.{_≤_};
-ghost use Rattle.rule.specs.Cells.{Fits, treeAt};
-ghost use Rattle.rule.specs.Shape.{stripeOf};
-ghost use Rattle.rule.specs.Sound.{Pool};
-ghost use Rattle.rule.specs.Stripe.{Low};
-ghost use Rattle.rule.specs.Test.{alone, slotFine};
+ghost use Rattle.pools.specs.Cells.{Fits, treeAt};
+ghost use Rattle.kinds.specs.Shape.{stripeOf};
+ghost use Rattle.pools.specs.Sound.{Pool};
+ghost use Rattle.kinds.specs.Stripe.{Low};
+ghost use Rattle.pools.specs.Test.{alone, slotFine};
 ghost use Rattle.tree.specs.Checked.{fromLink, fromSlot, fromRoot, Stands};
 ghost use Rattle.halving.specs.Sought.{Sought};
 

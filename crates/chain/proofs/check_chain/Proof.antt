@@ -1,6 +1,6 @@
 -- The invariant: the rest of the chain is as fine as the whole.
 use mathlib.Core.Path.{_≡_, refl, ap, _∙_}
-use Rattle.rule.specs.Test.{chainFine}
+use Rattle.pools.specs.Test.{chainFine}
 use Rattle.chain.specs.Judged.{verdict}
 use Rattle.chain.proofs.FreeChain.{free-fits, chain-ends, too-long, goes-on, breaks}
 use borrow.Author.Needs.{needs}

@@ -1,10 +1,10 @@
 -- The invariant: what is left to look for, found, is what was to be found.
 use mathlib.Core.Path.{_≡_, refl, _∙_}
 use native.Mathlib.Omega.{arith}
-use Rattle.rule.specs.Changes.{met}
-use Rattle.rule.specs.Cells.{treeAt}
-use Rattle.rule.specs.Shape.{stripeOf}
-use Rattle.rule.specs.Sound.{itself}
+use Rattle.trees.specs.Changes.{met}
+use Rattle.pools.specs.Cells.{treeAt}
+use Rattle.kinds.specs.Shape.{stripeOf}
+use Rattle.trees.specs.Tree.{itself}
 use Rattle.halving.specs.Sought.{Sought}
 use Rattle.halving.proofs.Searching.{ends-here, there, deep, hit, goes-on, sought-on}
 use Rattle.halving.proofs.met.Statement.{statement}

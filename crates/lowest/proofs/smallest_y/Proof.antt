@@ -1,7 +1,7 @@
 -- From the root of a sound pool, unless it is empty.
 use Rattle.questions.proofs.Top.{header, root-here, top-none, top-walked}
 use Rattle.lowest.proofs.YWalk.{smallestY-empty}
-use Rattle.rule.specs.Walks.{smallestY}
+use Rattle.walks.specs.Walks.{smallestY}
 use borrow.Author.Needs.{needs}
 use Rattle.lowest.proofs.smallest_y.Statement.{statement}
 use Rattle.lowest.proofs.smallest_y.Tie as tie

@@ -1,7 +1,7 @@
 -- A slot that is no hit changes nothing; a hit stands unless what was found so far is closer.
 use borrow.Author.Needs.{needs}
 use borrow.Author.Tests.{lt-ltb, le-ltb, not-true, not-false}
-use Rattle.rule.specs.Plain.{larger}
+use Rattle.plain.specs.Plain.{larger}
 use Rattle.nearest.proofs.Closer.{no-hit, own-alone, best-closer, own-stays}
 use Rattle.nearest.proofs.larger_of.Statement.{statement}
 use Rattle.nearest.proofs.larger_of.Tie as tie

@@ -3,11 +3,10 @@ use Prim.Native.Nat.{_<_}
 use mathlib.Core.Path.{refl}
 use native.Mathlib.Omega.{arith}
 use borrow.Author.Needs.{needs}
-use Rattle.rule.specs.Cells.{rootOf, treeAt}
-use Rattle.rule.specs.Plain.{limits, smaller}
-use Rattle.rule.specs.Sound.{lowLevels, allLevels}
-use Rattle.rule.specs.Stripe.{rootStripe}
-use Rattle.rule.specs.Walks.{smallestX}
+use Rattle.pools.specs.Cells.{rootOf, treeAt}
+use Rattle.plain.specs.Plain.{limits, smaller}
+use Rattle.kinds.specs.Stripe.{lowLevels, allLevels, rootStripe}
+use Rattle.walks.specs.Walks.{smallestX}
 use Rattle.questions.proofs.Top.{header}
 use Rattle.nearest.specs.Waiting.{Held}
 use Rattle.nearest.proofs.Held.{toWalk, standing, middle-fits, stop, pop, pop-less, fits, one-more, too-high, high-less, to-far, to-near, room-left, push, far-less, near-less, push-less, start}

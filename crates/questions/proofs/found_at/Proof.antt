@@ -1,6 +1,6 @@
 -- Each way out is one law.
 use mathlib.Core.Path.{sym, ap, _∙_}
-use Rattle.rule.specs.declared.Finding.the-variants.{Found}
+use Rattle.kinds.specs.declared.Finding.the-variants.{Found}
 use Rattle.questions.proofs.Finding.{found-none, found-some}
 use Rattle.questions.proofs.found_at.Statement.{statement}
 use Rattle.questions.proofs.found_at.Tie as tie

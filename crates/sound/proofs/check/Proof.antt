@@ -1,5 +1,5 @@
 -- Each verdict is one line of the table, or none.
-use Rattle.rule.specs.Refusals.{answerBy}
+use Rattle.kinds.specs.Refusals.{answerBy}
 use Rattle.sound.specs.Promises.{checked}
 use Rattle.sound.proofs.Judged.{found-sound, found-unsound, found-odd}
 use borrow.Author.Needs.{needs}

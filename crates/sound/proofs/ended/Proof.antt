@@ -2,9 +2,9 @@
 use Prim.Native.Nat.{ℕ}
 use mathlib.Core.Path.{_≡_}
 use borrow.Author.Tests.{eq-eqb, ne-eqb}
-use Rattle.rule.specs.declared.Answer.{Answer}
-use Rattle.rule.specs.Answer.{finished, refused, ended}
-use Rattle.rule.specs.Codes as codes
+use Rattle.kinds.specs.declared.Answer.{Answer}
+use Rattle.kinds.specs.Answer.{finished, refused, ended}
+use Rattle.kinds.specs.Codes as codes
 use borrow.Author.Needs.{needs}
 use Rattle.sound.proofs.ended.Statement.{statement}
 use Rattle.sound.proofs.ended.Tie as tie

@@ -1,7 +1,7 @@
 -- The two tests, in 01's order.
 use mathlib.Core.Path.{sym, _∙_}
 use borrow.Author.Tests.{not-true, not-false}
-use Rattle.rule.proofs.Decided.{pool-true}
+use Rattle.pools.proofs.Decided.{pool-true}
 use Rattle.sound.specs.Promises.{healthOf}
 use borrow.Author.Needs.{needs}
 use Rattle.sound.proofs.health_of.Statement.{statement}

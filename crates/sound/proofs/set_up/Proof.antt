@@ -1,7 +1,7 @@
 -- The length decides; a fresh pool is written, or nothing.
 use mathlib.Core.Path.{refl, sym, _∙_}
-use Rattle.rule.specs.Refusals.{leftBy}
-use Rattle.rule.proofs.Decided.{pool-true}
+use Rattle.kinds.specs.Refusals.{leftBy}
+use Rattle.pools.proofs.Decided.{pool-true}
 use Rattle.sound.specs.Promises.{setUp}
 use borrow.Author.Needs.{needs}
 use Rattle.sound.proofs.set_up.Statement.{statement}

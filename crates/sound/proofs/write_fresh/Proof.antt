@@ -4,8 +4,8 @@ use mathlib.Core.Path.{_≡_, _∙_}
 use native.Mathlib.Omega.{arith}
 use borrow.Author.Needs.{needs}
 use lib.ListN.{length}
-use Rattle.rule.specs.Cells.{perSlot}
-use Rattle.rule.proofs.Fresh.{chained}
+use Rattle.pools.specs.Cells.{perSlot}
+use Rattle.pools.proofs.Fresh.{chained}
 use Rattle.sound.proofs.Chaining.{turn, last, whole}
 use Rattle.sound.proofs.write_fresh.Statement.{statement}
 use Rattle.sound.proofs.write_fresh.Tie as tie

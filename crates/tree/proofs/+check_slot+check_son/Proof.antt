@@ -1,7 +1,7 @@
 -- A slot tests its sons' places, and a place that holds a slot with sons goes on there with a level less.
 use Prim.Native.Nat.{ℕ, _+_, _*_, _<_}
 use native.Mathlib.Omega.{arith}
-use Rattle.rule.proofs.Stripes.{low-left, low-right}
+use Rattle.kinds.proofs.Stripes.{low-left, low-right}
 use Rattle.tree.proofs.Counting.{son-empty, son-leaf, son-bad, son-fork, fork-fits, fork-there, left-faulty, right-faulty, again-faulty, both-counted, may-search, few-counted}
 use borrow.Author.Needs.{needs}
 use borrow.Fn.Kinds.{In}
@@ -15,8 +15,8 @@ use Rattle.tree.proofs.+check_slot+check_son.Lts-check_son as check-son
 use Rattle.cells.proofs.left.Reads as left-reads
 use Rattle.cells.proofs.pair.Reads as pair-reads
 use Rattle.cells.proofs.right.Reads as right-reads
-use Rattle.rule.proofs.Stripe.left.Reads as Stripe-left-reads
-use Rattle.rule.proofs.Stripe.right.Reads as Stripe-right-reads
+use Rattle.kinds.proofs.Stripe.left.Reads as Stripe-left-reads
+use Rattle.kinds.proofs.Stripe.right.Reads as Stripe-right-reads
 use Rattle.tree.proofs.again.Reads as again-reads
 use Rattle.tree.proofs.place_of.Reads as place-of-reads
 use Rattle.tree.proofs.+check_slot+check_son.{statement}

@@ -1,7 +1,7 @@
 -- The root's own tests, then its sons.
 use native.Mathlib.Omega.{arith}
 use borrow.Author.Tests.{not-true, not-false}
-use Rattle.rule.proofs.Stripes.{low-root}
+use Rattle.kinds.proofs.Stripes.{low-root}
 use Rattle.tree.proofs.Places.{fine-fits}
 use Rattle.tree.proofs.Root.{no-root, bad-root, good-root}
 use borrow.Author.Needs.{needs}

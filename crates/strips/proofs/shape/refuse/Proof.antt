@@ -1,6 +1,6 @@
 -- The verdict on the pool comes first.
 use mathlib.Core.List.{[]}
-use Rattle.rule.proofs.Tables.{answer-none}
+use Rattle.kinds.proofs.Tables.{answer-none}
 use Rattle.sound.proofs.Lines.{health-sound, answer-well, answer-odd, answer-ill}
 use borrow.Author.Needs.{needs}
 use Rattle.strips.proofs.shape.refuse.Statement.{statement}

@@ -1,0 +1,13 @@
+-- The smaller key is that of the pair that beats.
+use Rattle.kinds.proofs.Order.{beats-by-key}
+use borrow.Author.Needs.{needs}
+use Rattle.kinds.proofs.Pair.beats.Statement.{statement}
+use Rattle.kinds.proofs.Pair.beats.Tie as tie
+
+returns : tie.Need-returns
+returns c =
+    let p1 = c .before in
+    beats-by-key _ _ (p1 .key .ensures) (c .key2 .ensures)
+
+pub beats-spec : {M : Type 1} → statement M
+beats-spec = tie.close (tie.spec (λ c κs. search needs) (λ c κs. search needs) returns)

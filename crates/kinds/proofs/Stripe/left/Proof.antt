@@ -1,0 +1,10 @@
+-- The middle is the part's new end.
+use borrow.Author.Needs.{needs}
+use Rattle.kinds.proofs.Stripe.left.Statement.{statement}
+use Rattle.kinds.proofs.Stripe.left.Tie as tie
+
+returns : tie.Need-returns
+returns c = rw (c .middle .ensures)
+
+pub left-spec : {M : Type 1} → statement M
+left-spec = tie.close (tie.spec (λ c κs. search needs) returns)

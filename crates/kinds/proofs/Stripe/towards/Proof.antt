@@ -1,0 +1,22 @@
+-- The test picks the part.
+use mathlib.Core.Path.{sym, _∙_}
+use Rattle.kinds.specs.Stripe.{partOf}
+use borrow.Author.Needs.{needs}
+use Rattle.kinds.proofs.Stripe.towards.Statement.{statement}
+use Rattle.kinds.proofs.Stripe.towards.Tie as tie
+
+returns : tie.Need-returns
+unfolding partOf
+returns c =
+    let p1 = c .before in let p2 = p1 .before in
+    rw (sym (p2 .goes-left .ensures) ∙ p1 .if1 .taken) (c .left .ensures)
+
+returns-2 : tie.Need-returns-2
+unfolding partOf
+returns-2 c =
+    let p1 = c .before in let p2 = p1 .before in
+    rw (sym (p2 .goes-left .ensures) ∙ p1 .if1 .left) (c .right .ensures)
+
+pub towards-spec : {M : Type 1} → statement M
+towards-spec =
+    tie.close (tie.spec (λ c κs. search needs) (λ c κs. search needs) returns (λ c κs. search needs) returns-2)

@@ -1,0 +1,20 @@
+-- The parts of a stripe whose ends can be added are such stripes.
+use Prim.Native.Nat.{ℕ}
+use mathlib.Core.Path.{_≡_, refl}
+use native.Mathlib.Omega.{arith}
+use lib.Dec.{ltb}
+use Rattle.kinds.specs.Stripe.{Stripe, Low, rootStripe, middle, leftPart, rightPart, partOf}
+use Rattle.kinds.proofs.Tests.{on}
+
+pub low-root : {p : Stripe} → p ≡ rootStripe → Low p
+low-root e = rw e (record { lower = omega arith; upper = omega arith })
+
+pub low-left : {at p : Stripe} → Low at → p ≡ leftPart at → Low p
+low-left {at} h e = rw e (record { lower = omega arith; upper = omega arith })
+
+pub low-right : {at p : Stripe} → Low at → p ≡ rightPart at → Low p
+low-right {at} h e = rw e (record { lower = omega arith; upper = omega arith })
+
+pub low-part : (at : Stripe) (x : ℕ) → Low at → Low (partOf at x)
+unfolding partOf
+low-part at x h = on (ltb x (middle at)) (λ e. rw e (low-left h refl)) (λ e. rw e (low-right h refl))

@@ -1,0 +1,218 @@
+// The types that every crate shares. What they mean is in specs/.
+ghost use mathlib.Core.Path.{_≡_};
+ghost use Prim.Native.Nat.{_≤_};
+ghost use lib.Dec.{ltb};
+ghost use Rattle.kinds.specs.Answer.{five};
+ghost use Rattle.kinds.specs.Pairs.{beats};
+ghost use Rattle.kinds.specs.Stripe.{Low, rootStripe, middle, leftPart, rightPart, partOf, stripeAt, holds};
+ghost use Rattle.kinds.specs.Shape.{stripeOf, Keyed};
+
+pub mod codes;
+
+// A stored pair. No two stored pairs have the same x.
+pub struct Pair {
+    pub x: u32,
+    pub y: u32,
+}
+
+// The y and behind it the x, as one number.
+fn key(x: u32, y: u32) -> u64
+    ensures { λ r. ⌜ Keyed (record { x = x; y = y }) r ⌝ }
+{
+    y as u64 * 4294967296 + x as u64
+}
+
+impl Pair {
+    // A pair beats another if its y is smaller, or y is equal and its x is smaller.
+    pub fn beats(self, other: Pair) -> bool
+        ensures { λ r. ⌜ r ≡ beats self other ⌝ }
+    {
+        key(self.x, self.y) < key(other.x, other.y)
+    }
+}
+
+// The limits of a question, inclusive.
+pub struct Limits {
+    pub x0: u32,
+    pub x1: u32,
+    pub y1: u32,
+}
+
+// The part of the x that a slot owns: from its lower end up to its upper end, which is excluded.
+pub struct Stripe {
+    pub lower: u64,
+    pub upper: u64,
+}
+
+impl Stripe {
+    pub const ROOT_LOWER: u64 = 0;
+
+    pub const ROOT_UPPER: u64 = 4294967296;
+
+    // The levels below the root.
+    pub const LEVELS: u32 = 32;
+
+    pub fn root() -> Stripe
+        ensures { λ r. ⌜ stripeOf r ≡ rootStripe ⌝ }
+    {
+        Stripe {
+            lower: Stripe::ROOT_LOWER,
+            upper: Stripe::ROOT_UPPER,
+        }
+    }
+
+    // Summed in 64 bits: in 32 the sum would wrap at the root.
+    pub fn middle(self) -> u64
+        requires { ⌜ Low (stripeOf self) ⌝ }
+        ensures { λ r. ⌜ r ≡ middle (stripeOf self) ⌝ }
+    {
+        (self.lower + self.upper) / 2
+    }
+
+    pub fn left(self) -> Stripe
+        requires { ⌜ Low (stripeOf self) ⌝ }
+        ensures { λ r. ⌜ stripeOf r ≡ leftPart (stripeOf self) ⌝ }
+    {
+        let m = self.middle();
+        Stripe {
+            lower: self.lower,
+            upper: m,
+        }
+    }
+
+    pub fn right(self) -> Stripe
+        requires { ⌜ Low (stripeOf self) ⌝ }
+        ensures { λ r. ⌜ stripeOf r ≡ rightPart (stripeOf self) ⌝ }
+    {
+        let m = self.middle();
+        Stripe {
+            lower: m,
+            upper: self.upper,
+        }
+    }
+
+    // Whether x lies below the middle.
+    pub fn goes_left(self, x: u32) -> bool
+        requires { ⌜ Low (stripeOf self) ⌝ }
+        ensures { λ r. ⌜ r ≡ ltb x (middle (stripeOf self)) ⌝ }
+    {
+        (x as u64) < self.middle()
+    }
+
+    // The part on x's side of the middle.
+    pub fn towards(self, x: u32) -> Stripe
+        requires { ⌜ Low (stripeOf self) ⌝ }
+        ensures { λ r. ⌜ stripeOf r ≡ partOf (stripeOf self) x ⌝ }
+    {
+        if self.goes_left(x) {
+            return self.left();
+        }
+        self.right()
+    }
+
+    // The stripe that x lies in, with so many levels below it.
+    pub fn around(x: u32, levels: u32) -> Stripe
+        requires { ⌜ levels ≤ 32 ⌝ }
+        ensures { λ r. ⌜ stripeOf r ≡ stripeAt levels x ⌝ }
+    {
+        let width = 1u64 << levels;
+        let lower = x as u64 / width * width;
+        Stripe {
+            lower,
+            upper: lower + width,
+        }
+    }
+
+    // Whether x lies below the middle of that stripe: its bit at that level is 0.
+    pub fn is_left(x: u32, levels: u32) -> bool
+        requires { ⌜ (1 ≤ levels) × (levels ≤ 32) ⌝ }
+        ensures { λ r. ⌜ r ≡ ltb x (middle (stripeAt levels x)) ⌝ }
+    {
+        (x >> (levels - 1)) % 2 == 0
+    }
+
+    // Whether x lies in the stripe.
+    pub fn holds(self, x: u32) -> bool
+        ensures { λ r. ⌜ r ≡ holds (stripeOf self) x ⌝ }
+    {
+        let wide = x as u64;
+        if wide < self.lower {
+            return false;
+        }
+        wide < self.upper
+    }
+}
+
+// What a search ends with.
+pub enum Finding {
+    Found(Pair),
+    Nothing,
+}
+
+// What a walk ends with, and the tree slots that it visited.
+pub struct Walked {
+    pub finding: Finding,
+    pub visits: u32,
+}
+
+// What a call ends with. A change that is done has listed nothing; `more` says that a match found no room.
+pub enum Outcome {
+    Found(Pair),
+    Nothing,
+    Listed { count: u32, more: bool },
+    Refused(u32),
+}
+
+// The answer of a call: only a found pair carries a pair. The five numbers of each case are in specs/Answer.antt.
+pub struct Answer {
+    pub outcome: Outcome,
+    pub visits: u32,
+}
+
+impl Answer {
+    // The five numbers of the answer.
+    pub fn numbers(self) -> Five
+        ensures { λ r. ⌜ r ≡ five self ⌝ }
+    {
+        let o = self.outcome;
+        match o {
+            Outcome::Found(p) => Five {
+                code: codes::DONE,
+                x: p.x,
+                y: p.y,
+                count: 0,
+                visits: self.visits,
+            },
+            Outcome::Nothing => Five {
+                code: codes::NOTHING,
+                x: 0,
+                y: 0,
+                count: 0,
+                visits: self.visits,
+            },
+            Outcome::Listed { count, more } => Five {
+                code: if more { codes::MORE } else { codes::DONE },
+                x: 0,
+                y: 0,
+                count,
+                visits: self.visits,
+            },
+            Outcome::Refused(code) => Five {
+                code,
+                x: 0,
+                y: 0,
+                count: 0,
+                visits: 0,
+            },
+        }
+    }
+}
+
+// An answer as five numbers.
+pub struct Five {
+    pub code: u32,
+    pub x: u32,
+    pub y: u32,
+    pub count: u32,
+    pub visits: u32,
+}

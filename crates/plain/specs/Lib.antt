@@ -1,0 +1,2 @@
+-- A book as a plain list, and what each question finds in it.
+pub mod Plain

@@ -1,0 +1,3 @@
+-- The tree, and how it changes.
+pub mod Tree
+pub mod Changes

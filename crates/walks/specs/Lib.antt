@@ -1,0 +1,2 @@
+-- The corrected walks.
+pub mod Walks
