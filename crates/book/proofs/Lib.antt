@@ -1,5 +1,1 @@
--- The laws on the pairs by ascending x and on written bytes, and what the book means.
-pub mod Ascending
-pub mod Bytes
-pub mod Next
-pub mod Entry
+-- No laws of its own: what the book means is in pages.

@@ -6,6 +6,9 @@ ghost use Rattle.pools.specs.Cells.{Fits, markOf, rootOf, freeOf, countOf, pair
 
 pub const PER_SLOT: usize = 4;
 
+// The most slots that a pool has.
+pub const MOST: usize = 4095;
+
 pub const MARK: u32 = 1;
 
 // What a free slot has for its left link.

@@ -12,8 +12,7 @@ use Rattle.pools.specs.Cells.{perSlot, slotsOf, freeOf, countOf, Fits, pairAt, 
 use Rattle.pools.specs.Test.{freeFine, chainFine}
 use Rattle.kinds.proofs.Tests.{all-three, and-false}
 use Rattle.pools.proofs.Leads.{back}
-use Rattle.chain.specs.declared.Verdict.{Verdict}
-use Rattle.chain.specs.declared.Verdict.the-variants.{Sound, Faulty}
+use Rattle.kinds.specs.Codes.{done, unsound}
 use Rattle.chain.specs.Judged.{verdict, restVerdict}
 
 module _ (c : List ℕ) (s : ℕ) where
@@ -50,11 +49,11 @@ module _ (c : List ℕ) (s : ℕ) where
             rw (le-leb 1 s (omega arith), le-leb s (slotsOf c) (omega arith), eq-eqb (pairAt c s .x) 0 (rw e at x), eq-eqb (pairAt c s .y) 0 (rw e at y), f)
 
 module _ (c : List ℕ) (n s : ℕ) where
-  pub chain-ends : n ≡ 0 → s ≡ 0 → Sound ≡ verdict (chainFine c n s)
+  pub chain-ends : n ≡ 0 → s ≡ 0 → done ≡ verdict (chainFine c n s)
   unfolding chainFine
   chain-ends z h = rw (z, eq-eqb s 0 h)
 
-  pub too-long : n ≡ 0 → (s ≡ 0 → ⊥) → Faulty ≡ verdict (chainFine c n s)
+  pub too-long : n ≡ 0 → (s ≡ 0 → ⊥) → unsound ≡ verdict (chainFine c n s)
   unfolding chainFine
   too-long z h = rw (z, ne-eqb s 0 h)
 
@@ -66,23 +65,23 @@ module _ (c : List ℕ) (n s : ℕ) where
     pub goes-on : (s′ : ℕ) → b ≡ true → s′ ≡ rightAt c s → chainFine c (n - 1) s′ ≡ chainFine c n s
     goes-on s′ t f = rw f (step (n - 1) (sym (back n d)) true (sym e ∙ t))
 
-    pub breaks : b ≡ false → Faulty ≡ verdict (chainFine c n s)
+    pub breaks : b ≡ false → unsound ≡ verdict (chainFine c n s)
     breaks f = rw (← (step (n - 1) (sym (back n d)) false (sym e ∙ f)))
 
 -- the tree's slots and the chain's
 module _ (c : List ℕ) (n count : ℕ) (ec : count ≡ countOf c) where
-  pub other-count : (n ≡ count → ⊥) → Faulty ≡ restVerdict c n
+  pub other-count : (n ≡ count → ⊥) → unsound ≡ restVerdict c n
   unfolding restVerdict
   other-count h = rw (ne-eqb n (countOf c) (rw ec at h))
 
   module _ (en : n ≡ count) where
-    pub too-many : slotsOf c < count → Faulty ≡ restVerdict c n
+    pub too-many : slotsOf c < count → unsound ≡ restVerdict c n
     unfolding restVerdict
     too-many h =
         let h′ : slotsOf c < countOf c = rw ec at h in
         rw (eq-eqb n (countOf c) (en ∙ ec), lt-leb (countOf c) (slotsOf c) h′)
 
-    pub the-rest : (v : Verdict) (first : ℕ) → count ≤ slotsOf c → first ≡ freeOf c → v ≡ verdict (chainFine c (slotsOf c - count) first) → v ≡ restVerdict c n
+    pub the-rest : (v : ℕ) (first : ℕ) → count ≤ slotsOf c → first ≡ freeOf c → v ≡ verdict (chainFine c (slotsOf c - count) first) → v ≡ restVerdict c n
     unfolding restVerdict
     the-rest v first h f e =
         let h′ : countOf c ≤ slotsOf c = rw ec at h in

@@ -1,13 +1,9 @@
-// The free chain's part of the check.
+// The free chain's part of the check. Its verdict is the code: 0 where all is fine, 2 where it is not.
+use kinds::codes;
 ghost use mathlib.Core.Path.{_≡_};
 ghost use Rattle.pools.specs.Sound.{Pool};
 ghost use Rattle.pools.specs.Test.{freeFine, chainFine};
 ghost use Rattle.chain.specs.Judged.{verdict, restVerdict};
-
-pub enum Verdict {
-    Sound,
-    Faulty,
-}
 
 // Whether a slot's number is one of the pool's, and the slot is in the free form.
 fn free_fine(pool: &[u32], slot: u32) -> bool
@@ -30,7 +26,7 @@ fn free_fine(pool: &[u32], slot: u32) -> bool
 }
 
 // Whether the chain has exactly so many slots, each in the free form, and then ends.
-fn check_chain(pool: &[u32], first: u32, count: usize) -> Verdict
+fn check_chain(pool: &[u32], first: u32, count: usize) -> u32
     ensures { λ r. ⌜ r ≡ verdict (chainFine (now (pool .entry)) count first) ⌝ }
 {
     let mut slot = first;
@@ -38,32 +34,32 @@ fn check_chain(pool: &[u32], first: u32, count: usize) -> Verdict
     loop {
         if left == 0 {
             break if slot == 0 {
-                Verdict::Sound
+                codes::DONE
             } else {
-                Verdict::Faulty
+                codes::UNSOUND
             };
         }
         if free_fine(pool, slot) {
             slot = cells::right(pool, slot);
             left -= 1;
         } else {
-            break Verdict::Faulty;
+            break codes::UNSOUND;
         }
     }
 }
 
 // Whether a tree of so many slots has as many as the header says, and the chain the remaining ones.
-pub fn check_rest(pool: &[u32], size: u64) -> Verdict
+pub fn check_rest(pool: &[u32], size: u64) -> u32
     requires { ⌜ Pool (now pool) ⌝ }
     ensures { λ r. ⌜ r ≡ restVerdict (now (pool .entry)) size ⌝ }
 {
     let count = cells::count(pool) as usize;
     if size != count as u64 {
-        return Verdict::Faulty;
+        return codes::UNSOUND;
     }
     let n = pool.len() / cells::PER_SLOT - 1;
     if n < count {
-        return Verdict::Faulty;
+        return codes::UNSOUND;
     }
     check_chain(pool, cells::first_free(pool), n - count)
 }

@@ -1,3 +1,1 @@
--- What a caller in C is told, and that a promise to one allows one result alone.
-pub mod Telling
-pub mod Promised
+-- No laws of its own: those on what a caller in C is told are in told.

@@ -2,7 +2,6 @@
 mod ask;
 mod change;
 mod list;
-mod tell;
 
 pub use ask::drecerunya_earliest_start;
 pub use ask::drecerunya_first_to_end;
@@ -18,31 +17,30 @@ pub use list::drecerunya_list_contains;
 pub use list::drecerunya_list_covers;
 pub use list::drecerunya_list_meets;
 pub use list::drecerunya_listing;
-ghost use mathlib.Core.Path.{_≡_};
-ghost use Rattle.sound.specs.Promises.{setUp, checked};
-ghost use Rattle.book.specs.Promises.{saved};
-ghost use Rattle.drecerunya.specs.Told.{codeOf, LeavesCode, LeavesTold};
+ghost use Rattle.sound.specs.Promises.{behindCheck, setUp, check};
+ghost use Rattle.answers.specs.Promises.{saved};
+ghost use Rattle.told.specs.Told.{Tells, TellsCode};
 
 // Lays out a pool with nothing stored, whatever its cells held.
 #[no_mangle]
 pub extern "C" fn drecerunya_set_up(pool: &mut [u32]) -> u32
-    ensures { λ r. ⌜ LeavesCode (setUp (now (pool .entry))) (now (pool .exit)) r ⌝ }
+    ensures { λ r. ⌜ TellsCode (setUp (now (pool .entry))) (now (pool .entry)) r (now (pool .exit)) ⌝ }
 {
-    tell::code_of(pool::set_up(pool))
+    told::code_of(pool::set_up(pool))
 }
 
 // Says whether a pool is sound, or gives the code of what is wrong.
 #[no_mangle]
 pub extern "C" fn drecerunya_check(pool: &[u32]) -> u32
-    ensures { λ r. ⌜ r ≡ codeOf (checked (now (pool .entry))) ⌝ }
+    ensures { λ r. ⌜ TellsCode (check (now (pool .entry))) (now (pool .entry)) r (now (pool .entry)) ⌝ }
 {
-    tell::code_of(pool::check(pool))
+    told::code_of(pool::check(pool))
 }
 
 // Writes the stored book from the first byte on; bytes beyond it stay.
 #[no_mangle]
 pub extern "C" fn drecerunya_save(pool: &[u32], bytes: &mut [u8], answer: &mut [u32; 5]) -> u32
-    ensures { λ r. ⌜ LeavesTold (saved (now (pool .entry)) (now (bytes .entry))) (now (bytes .exit)) (now (answer .exit)) r ⌝ }
+    ensures { λ r. ⌜ Tells (behindCheck (now (pool .entry)) (saved (now (pool .entry)) (now (bytes .entry)))) (now (pool .entry)) (now (bytes .entry)) r (now (pool .entry)) (now (bytes .exit)) (now (answer .exit)) ⌝ }
 {
-    tell::tell(book::save(pool, bytes), answer)
+    told::tell(book::save(pool, bytes), answer)
 }

@@ -1,9 +1,8 @@
 // The lists, into a second lent slice.
-use super::tell;
 ghost use Rattle.plain.specs.Plain.{limits};
-ghost use Rattle.pool.specs.Asking.{listingLeft};
-ghost use Rattle.strips.specs.Promises.{listCovers, listMeets, listContains};
-ghost use Rattle.drecerunya.specs.Told.{LeavesTold};
+ghost use Rattle.sound.specs.Promises.{behindCheck};
+ghost use Rattle.answers.specs.Promises.{listingAsked, listCovers, listMeets, listContains};
+ghost use Rattle.told.specs.Told.{Tells};
 
 // The pairs with x0 ≤ x ≤ x1 and y ≤ y1, two cells each from the slice's start, as many as it has room for.
 #[no_mangle]
@@ -15,9 +14,9 @@ pub extern "C" fn drecerunya_listing(
     out: &mut [u32],
     answer: &mut [u32; 5],
 ) -> u32
-    ensures { λ r. ⌜ LeavesTold (listingLeft (now (pool .entry)) (limits x0 x1 y1) (now (out .entry))) (now (out .exit)) (now (answer .exit)) r ⌝ }
+    ensures { λ r. ⌜ Tells (behindCheck (now (pool .entry)) (listingAsked (now (pool .entry)) (limits x0 x1 y1) (now (out .entry)))) (now (pool .entry)) (now (out .entry)) r (now (pool .entry)) (now (out .exit)) (now (answer .exit)) ⌝ }
 {
-    tell::tell(pool::listing(pool, x0, x1, y1, out), answer)
+    told::tell(pool::listing(pool, x0, x1, y1, out), answer)
 }
 
 // The strips that cover slot u.
@@ -28,9 +27,9 @@ pub extern "C" fn drecerunya_list_covers(
     out: &mut [u32],
     answer: &mut [u32; 5],
 ) -> u32
-    ensures { λ r. ⌜ LeavesTold (listCovers (now (pool .entry)) u (now (out .entry))) (now (out .exit)) (now (answer .exit)) r ⌝ }
+    ensures { λ r. ⌜ Tells (behindCheck (now (pool .entry)) (listCovers (now (pool .entry)) u (now (out .entry)))) (now (pool .entry)) (now (out .entry)) r (now (pool .entry)) (now (out .exit)) (now (answer .exit)) ⌝ }
 {
-    tell::tell(strips::list_covers(pool, u, out), answer)
+    told::tell(strips::list_covers(pool, u, out), answer)
 }
 
 // The strips that cover some slot of u..v.
@@ -42,9 +41,9 @@ pub extern "C" fn drecerunya_list_meets(
     out: &mut [u32],
     answer: &mut [u32; 5],
 ) -> u32
-    ensures { λ r. ⌜ LeavesTold (listMeets (now (pool .entry)) u v (now (out .entry))) (now (out .exit)) (now (answer .exit)) r ⌝ }
+    ensures { λ r. ⌜ Tells (behindCheck (now (pool .entry)) (listMeets (now (pool .entry)) u v (now (out .entry)))) (now (pool .entry)) (now (out .entry)) r (now (pool .entry)) (now (out .exit)) (now (answer .exit)) ⌝ }
 {
-    tell::tell(strips::list_meets(pool, u, v, out), answer)
+    told::tell(strips::list_meets(pool, u, v, out), answer)
 }
 
 // The strips that cover every slot of u..v.
@@ -56,7 +55,7 @@ pub extern "C" fn drecerunya_list_contains(
     out: &mut [u32],
     answer: &mut [u32; 5],
 ) -> u32
-    ensures { λ r. ⌜ LeavesTold (listContains (now (pool .entry)) u v (now (out .entry))) (now (out .exit)) (now (answer .exit)) r ⌝ }
+    ensures { λ r. ⌜ Tells (behindCheck (now (pool .entry)) (listContains (now (pool .entry)) u v (now (out .entry)))) (now (pool .entry)) (now (out .entry)) r (now (pool .entry)) (now (out .exit)) (now (answer .exit)) ⌝ }
 {
-    tell::tell(strips::list_contains(pool, u, v, out), answer)
+    told::tell(strips::list_contains(pool, u, v, out), answer)
 }

@@ -1,4 +1,4 @@
-// The search for x in a tree, by halving the stripe.
+// The search for x below a slot, by halving the stripe that it is in.
 use kinds::Stripe;
 ghost use mathlib.Core.Path.{_≡_};
 ghost use Rattle.trees.specs.Changes.{met};

@@ -1,157 +1,172 @@
--- The filling of a hole, a step at a time.
-use Prim.Native.Nat.{ℕ, suc, _-_}
+-- The filling of a hole, a level at a time: a slot with no sons is given up; else the heir's pair moves up, the hole is at the heir's place,
+-- and where that is filled, so is the first.
+use Prim.Native.Nat.{ℕ, suc, _-_, _/_}
 use mathlib.Core.Path.{_≡_, refl, sym, ap, _∙_}
 use mathlib.Core.Logic.{_≢_}
-use mathlib.Core.Bool.{Bool, true, false, not, cond}
+use mathlib.Core.Bool.{Bool, true, false, not}
 use mathlib.Core.List.{List}
 use native.Mathlib.Omega.{arith}
 use lib.Dec.{eqb}
-use lib.ListN.{getD}
+use lib.ListN.{getD, set, length-set}
+use lib.Seq.{getD-set-same, getD-set-other}
 use borrow.Author.Tests.{eqb-true, eqb-false}
 use Rattle.kinds.specs.declared.Pair.{Pair}
 use Rattle.kinds.specs.Pairs.{beats}
-use Rattle.trees.specs.Tree.{Tree, none, fork, itself}
+use Rattle.trees.specs.Tree.{Tree, none, fork, at-top, itself}
 use Rattle.trees.specs.Changes.{fill}
-use Rattle.pools.specs.Cells.{Fits, pairAt, leftAt, rightAt, sonAt, linkCell, treeAt}
-use Rattle.pools.specs.Sound.{Leads}
+use Rattle.pools.specs.Cells.{perSlot, Fits, freeOf, pairAt, leftAt, rightAt, sonAt, linkCell, putFree, treeAt}
+use Rattle.pools.specs.Sound.{nowhere, Leads}
 use Rattle.kinds.proofs.Tests.{on}
 use Rattle.pools.proofs.Leads.{back, tree-none, tree-fork, leads-deep, leads-fits, leads-son}
-use Rattle.changes.proofs.Links.{link-low, link-inside, link-son}
-use Rattle.changes.proofs.Replacing.{Paired, paired-put}
-use Rattle.hole.specs.Hole.{placed, Sons, Heirs, no-sons, heir, Promotes, promoted, Releases, released, Hole, Freed}
-use Rattle.hole.proofs.Forks.{Cut-on, Wins, alone, over, fill-on}
-use Rattle.hole.proofs.Holes.{son-tree, seen, son-place, freed-on, freed-last}
+use Rattle.pools.proofs.Agreement.{holds-agree, holds-free, leads-reads, free-wrote, free-read}
+use Rattle.way.specs.Way.{treeThere}
+use Rattle.way.proofs.Links.{link-inside, link-son, agree-get, cell-agree}
+use Rattle.way.proofs.Sides.{sonTree}
+use Rattle.way.proofs.Replacing.{Paired, paired-put, there-on, son-tree, son-place, replaced-near}
+use Rattle.hole.specs.Hole.{Sons, Heirs, Promotes, promoted, Releases, released, Hole, Freed}
+use Rattle.hole.proofs.Cuts.{cutOn, Wins, alone, over, fill-on}
+use Rattle.hole.proofs.Heirs.{Heired, heired, childless, won}
 
--- the heir, as the code finds it
-module _ (c : List ℕ) (s : ℕ) {l r : ℕ} (el : l ≡ leftAt c s) (er : r ≡ rightAt c s) where
-  pub neither : l ≡ 0 → r ≡ 0 → Heirs c s 0
-  neither zl zr = no-sons (sym el ∙ zl) (sym er ∙ zr)
+-- as the code releases a slot
+pub released-by : (c : List ℕ) (cell s : ℕ) {b d : List ℕ} {first : ℕ} → first ≡ freeOf c → b ≡ putFree (set c cell 0) s first → d ≡ set b 2 s → d ≡ released c cell s
+unfolding released
+released-by c cell s ef eb ed = rw (eb, ef) at ed
 
-  pub only-right : {h : ℕ} → l ≡ 0 → r ≢ 0 → h ≡ linkCell s false → Heirs c s h
-  unfolding sonAt
-  only-right zl nr e = rw e (heir false (rw er at nr) (λ n. absurd (n (sym el ∙ zl))))
+module _ {c : List ℕ} {k cell : ℕ} (o : Hole c k cell) where
+  abbrev s : ℕ
+  s = getD c cell 0
 
-  pub only-left : {h : ℕ} → l ≢ 0 → r ≡ 0 → h ≡ linkCell s true → Heirs c s h
-  unfolding sonAt
-  only-left nl zr e = rw e (heir true (rw el at nl) (λ n. absurd (n (sym er ∙ zr))))
-
-  some-son : l ≢ 0 → r ≢ 0 → (b : Bool) → sonAt c s b ≢ 0
-  unfolding sonAt
-  some-son nl nr true = rw el at nl
-  some-son nl nr false = rw er at nr
-
-  pub both-sons : {h : ℕ} {p q : Pair} {b : Bool} → l ≢ 0 → r ≢ 0 → p ≡ pairAt c l → q ≡ pairAt c r → b ≡ beats p q → h ≡ linkCell s b → Heirs c s h
-  both-sons {b = b} nl nr ep eq eb e = rw e (heir b (some-son nl nr b) (λ _. rw (← el, ← er, ← ep, ← eq) (sym eb)))
-
-record Heired (c : List ℕ) (s h : ℕ) : Type 0 where
-  left : Bool
-  at : h ≡ linkCell s left
-  there : sonAt c s left ≢ 0
-  wins : sonAt c s (not left) ≢ 0 → beats (pairAt c (leftAt c s)) (pairAt c (rightAt c s)) ≡ left
-
-heired : {c : List ℕ} {s h : ℕ} → Heirs c s h → h ≢ 0 → Heired c s h
-heired (no-sons a b) n = absurd (n refl)
-heired (heir left t w) n = record { left = left; at = refl; there = t; wins = w }
-
-childless : {c : List ℕ} {s h : ℕ} → Heirs c s h → h ≡ 0 → (leftAt c s ≡ 0) × (rightAt c s ≡ 0)
-childless (no-sons a b) e = (a, b)
-childless {s = s} (heir left t w) e = absurd (omega (arith, link-low s left))
-
-won : (c : List ℕ) (s : ℕ) (left : Bool) → beats (pairAt c (leftAt c s)) (pairAt c (rightAt c s)) ≡ left
-    → beats (cond left (pairAt c (sonAt c s left)) (pairAt c (sonAt c s (not left)))) (cond left (pairAt c (sonAt c s (not left))) (pairAt c (sonAt c s left))) ≡ left
-unfolding sonAt
-won c s true e = e
-won c s false e = e
-
-module _ {c : List ℕ} {n cell : ℕ} (o : Hole c (suc n) cell) where
-  hole-fits : Fits c (getD c cell 0)
+  hole-fits : Fits c s
   hole-fits = leads-fits c (o .place .leads) (o .there)
 
-  pub hole-sons : Sons c (getD c cell 0)
+  pub hole-sons : Sons c s
   unfolding sonAt
-  hole-sons =
-      let s = getD c cell 0 in
-      record {
-        here = hole-fits;
-        left = leads-fits c (leads-son c n s true (o .place .leads) (o .there));
-        right = leads-fits c (leads-son c n s false (o .place .leads) (o .there));
-      }
+  hole-sons = record {
+    here = hole-fits;
+    left = leads-fits c (leads-son c k s true (o .place .leads) (o .there));
+    right = leads-fits c (leads-son c k s false (o .place .leads) (o .there));
+  }
 
-  pub may-release : Releases c cell (getD c cell 0)
+  pub may-release : Releases c cell s
   may-release = record { inside = o .place .inside; slot = hole-fits }
 
+  -- a slot with no sons
+  module _ (e : treeThere c k cell ≡ fork s (pairAt c s) none none) where
+    abbrev unlinked : List ℕ
+    unlinked = set c cell 0
+
+    abbrev freed : List ℕ
+    freed = putFree unlinked s (freeOf c)
+
+    given-up : Freed c k cell (released c cell s)
+    unfolding released fill
+    given-up =
+        let some = leads-reads (rw e at (o .place .leads)) .slot .some in
+        let fits = hole-fits in
+        let inside = o .place .inside in
+        let long = length-set c cell 0 in
+        let W = free-wrote unlinked s (freeOf c) in
+        let wide = W .long in
+        let apart : cell / perSlot ≢ s = (λ z. (rw e at (o .place .apart)) (at-top z)) in
+        let first : freeOf (set freed 2 s) ≡ s = getD-set-same freed 2 s 0 (omega arith) in
+        let H = holds-agree (free-read unlinked s (freeOf c) (omega arith)) (cell-agree freed 2 s s (omega arith)) in
+        record {
+          place = rw e (record {
+            long = length-set freed 2 s ∙ wide ∙ long;
+            link = getD-set-other freed 2 cell s 0 (o .place .other) ∙ agree-get cell (W .rest (cell / perSlot) apart) ∙ getD-set-same c cell 0 0 inside;
+            leads = nowhere;
+            rest = λ j n t m. getD-set-other freed 2 j s 0 t ∙ agree-get j (W .rest (j / perSlot) (λ z. m (at-top z))) ∙ getD-set-other c cell j 0 0 n;
+          });
+          first = rw e first;
+          form = rw first (holds-free H);
+          next = rw first (H .right);
+        }
+
   -- law: the last slot
-  pub last-freed : {h : ℕ} {d : List ℕ} → Heirs c (getD c cell 0) h → h ≡ 0 → d ≡ released c cell (getD c cell 0)
-      → Freed c cell (placed c (suc n) cell) (fill itself (placed c (suc n) cell)) d
-  unfolding fill
+  pub last-freed : {h : ℕ} {d : List ℕ} → Heirs c s h → h ≡ 0 → d ≡ released c cell s → Freed c k cell d
   last-freed H z e =
-      let s = getD c cell 0 in
-      let k = childless H z in
-      let t : placed c (suc n) cell ≡ fork s (pairAt c s) none none = rw (tree-fork c n s (o .there), tree-none c n (leftAt c s) (k .0), tree-none c n (rightAt c s) (k .1)) in
-      rw (t, e) (freed-last (rw t at (o .place)))
+      let no = childless H z in
+      rw e (given-up (rw (tree-fork c k s (o .there), tree-none c k (leftAt c s) (no .0), tree-none c k (rightAt c s) (no .1)) refl))
 
-  module _ (left : Bool) (t : sonAt c (getD c cell 0) left ≢ 0)
-      (w : sonAt c (getD c cell 0) (not left) ≢ 0 → beats (pairAt c (leftAt c (getD c cell 0))) (pairAt c (rightAt c (getD c cell 0))) ≡ left) where
-    abbrev s : ℕ
-    s = getD c cell 0
+  -- a slot with a son on a side
+  module _ (left : Bool) (t : sonAt c s left ≢ 0) where
+    near-leads : Leads c (sonAt c s left) (sonTree c k s left)
+    near-leads = leads-son c k s left (o .place .leads) (o .there)
 
-    abbrev v : Tree Pair
-    v = treeAt c n (sonAt c s (not left))
-
-    abbrev q : Pair
-    q = pairAt c (sonAt c s left)
-
-    near : Leads c (sonAt c s left) (treeAt c n (sonAt c s left))
-    near = leads-son c n s left (o .place .leads) (o .there)
-
-    deep : n ≢ 0
-    deep = leads-deep c n (sonAt c s left) near t
-
-    a-fork : (i : ℕ) → i ≢ 0 → treeAt c n i ≡ fork i (pairAt c i) (treeAt c (n - 1) (leftAt c i)) (treeAt c (n - 1) (rightAt c i))
-    a-fork i h = ap (λ k. treeAt c k i) (sym (back n deep)) ∙ tree-fork c (n - 1) i h
-
-    wins-far : Wins left q v
-    wins-far =
-        let i = sonAt c s (not left) in
-        on (eqb i 0) (λ e. rw (tree-none c n i (eqb-true i 0 e)) alone)
-        (λ e. let m = eqb-false i 0 e in rw (a-fork i m) (over (won c s left (w m))))
+    deep : k ≢ 0
+    deep = leads-deep c k (sonAt c s left) near-leads t
 
     son-promotes : Promotes c s (linkCell s left)
-    son-promotes = record { to = hole-fits; inside = link-inside c s left hole-fits; from = rw (link-son c s left) (leads-fits c near t) }
+    son-promotes = record { to = hole-fits; inside = link-inside c s left hole-fits; from = rw (link-son c s left) (leads-fits c near-leads t) }
 
-    abbrev c′ : List ℕ
-    c′ = promoted c s (linkCell s left)
-
-    paired : Paired c s q c′
+    promoted-paired : Paired c s (pairAt c (sonAt c s left)) (promoted c s (linkCell s left))
     unfolding promoted
-    paired = rw (link-son c s left) (paired-put c s q hole-fits)
+    promoted-paired = rw (link-son c s left) (paired-put c s (pairAt c (sonAt c s left)) hole-fits)
 
-    abbrev u : Tree Pair
-    u = placed c′ (suc (n - 1)) (linkCell s left)
+-- the heir's pair moves up from a side
+module _ {c : List ℕ} {k cell : ℕ} (o : Hole c (suc k) cell) (left : Bool) (t : sonAt c (getD c cell 0) left ≢ 0)
+    (w : sonAt c (getD c cell 0) (not left) ≢ 0 → beats (pairAt c (leftAt c (getD c cell 0))) (pairAt c (rightAt c (getD c cell 0))) ≡ left) where
+  abbrev slot : ℕ
+  slot = getD c cell 0
 
-    filled : Cut-on left s q v (fill itself u) (fill itself (placed c (suc n) cell))
-    filled =
-        let e = son-tree n (o .place) (o .there) deep left paired ∙ a-fork (sonAt c s left) t in
-        rw e (fill-on (rw e at (seen n (o .place) (o .there) deep left paired)) wins-far)
+  abbrev heir : ℕ
+  heir = sonAt c slot left
 
-    son-hole : Hole c′ (suc (n - 1)) (linkCell s left)
-    son-hole = record { place = son-place n (o .place) (o .there) deep left paired; there = rw (paired .link left, link-son c s left) t }
+  abbrev far : Tree Pair
+  far = sonTree c (suc k) slot (not left)
 
-    son-freed : (d : List ℕ) → Freed c′ (linkCell s left) u (fill itself u) d → Freed c cell (placed c (suc n) cell) (fill itself (placed c (suc n) cell)) d
-    son-freed d h = freed-on n (o .place) (o .there) deep left paired filled h
+  abbrev c′ : List ℕ
+  c′ = promoted c slot (linkCell slot left)
 
-  -- law: the heir's pair moves up, and the hole is at its place
-  module _ {h : ℕ} (H : Heirs c (getD c cell 0) h) (ne : h ≢ 0) where
-    pub promotes : Promotes c (getD c cell 0) h
-    promotes = let k = heired H ne in rw (k .at) (son-promotes (k .left) (k .there) (k .wins))
+  moved-up : Paired c slot (pairAt c heir) c′
+  moved-up = promoted-paired o left t
 
-    pub deeper : n ≢ 0
-    deeper = let k = heired H ne in deep (k .left) (k .there) (k .wins)
+  wins : Wins left (pairAt c heir) far
+  wins =
+      let i = sonAt c slot (not left) in
+      on (eqb i 0) (λ e. rw (tree-none c (suc k) i (eqb-true i 0 e)) alone)
+      (λ e. let n = eqb-false i 0 e in rw (tree-fork c k i n) (over (won c slot left (w n))))
 
-    pub next-hole : {c′ : List ℕ} → c′ ≡ promoted c (getD c cell 0) h → Hole c′ (suc (n - 1)) h
-    next-hole e = let k = heired H ne in rw (e, k .at) (son-hole (k .left) (k .there) (k .wins))
+  filled : fill itself (treeThere c (suc k) cell) ≡ cutOn left slot (pairAt c heir) far (fill itself (treeThere c′ k (linkCell slot left)))
+  filled = rw (there-on (o .place) (o .there) left, son-tree (o .place) (o .there) left moved-up, tree-fork c k heir t)
+      (fill-on slot heir (pairAt c slot) (treeAt c k (leftAt c heir)) (treeAt c k (rightAt c heir)) left wins)
 
-    -- law: what is freed there is freed here
-    pub on-freed : {c′ d : List ℕ} → c′ ≡ promoted c (getD c cell 0) h → Freed c′ h (placed c′ (suc (n - 1)) h) (fill itself (placed c′ (suc (n - 1)) h)) d
-        → Freed c cell (placed c (suc n) cell) (fill itself (placed c (suc n) cell)) d
-    on-freed {d = d} e f = let k = heired H ne in son-freed (k .left) (k .there) (k .wins) d (rw (e, k .at) at f)
+  son-hole : Hole c′ k (linkCell slot left)
+  son-hole = record { place = son-place (o .place) (o .there) left moved-up; there = rw (moved-up .link left, link-son c slot left) t }
+
+  same-free : freeOf c′ ≡ freeOf c
+  same-free = moved-up .wrote .rest 0 (λ e. o .there (sym e)) .left
+
+  son-freed : {d : List ℕ} → Freed c′ k (linkCell slot left) d → Freed c (suc k) cell d
+  son-freed h = record {
+    place = rw filled (replaced-near (o .place) (o .there) left moved-up (h .place));
+    first = h .first ∙ sym (ap (λ cut. cut .slot) filled);
+    form = h .form;
+    next = h .next ∙ same-free;
+  }
+
+-- the same of the heir as the code finds it
+module _ {c : List ℕ} {k cell : ℕ} (o : Hole c k cell) {h : ℕ} (H : Heirs c (getD c cell 0) h) (ne : h ≢ 0) where
+  found : Heired c (getD c cell 0) h
+  found = heired H ne
+
+  pub promotes : Promotes c (getD c cell 0) h
+  promotes = rw (found .at) (son-promotes o (found .left) (found .there))
+
+  -- law: there is a level below
+  pub deeper : k ≢ 0
+  deeper = deep o (found .left) (found .there)
+
+  same-hole : Hole c (suc (k - 1)) cell
+  same-hole = rw (back k deeper) o
+
+  module _ {c′ : List ℕ} (e : c′ ≡ promoted c (getD c cell 0) h) where
+    -- law: the hole is at the heir's place
+    pub next-hole : Hole c′ (k - 1) h
+    next-hole = rw (e, found .at) (son-hole same-hole (found .left) (found .there) (found .wins))
+
+    -- law: where it is filled there, it is filled here
+    pub next-freed : {d : List ℕ} → Freed c′ (k - 1) h d → Freed c k cell d
+    next-freed {d} f =
+        let N : Freed c (suc (k - 1)) cell d = son-freed same-hole (found .left) (found .there) (found .wins) (rw (e, found .at) at f) in
+        rw (back k deeper) at N

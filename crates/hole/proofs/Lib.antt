@@ -1,6 +1,5 @@
 -- The laws that the proofs of the deletion cite.
-pub mod Forks
-pub mod Holes
+pub mod Cuts
+pub mod Heirs
 pub mod Filling
-pub mod Removing
 pub mod Deletion

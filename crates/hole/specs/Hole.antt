@@ -1,5 +1,5 @@
--- A pair that is taken out at a place.
-use Prim.Native.Nat.{ℕ, suc, _+_, _^_, _≤_, _<_, _/_}
+-- A hole that is filled, and how a deletion ends.
+use Prim.Native.Nat.{ℕ, _<_}
 use mathlib.Core.Path.{_≡_}
 use mathlib.Core.Logic.{_≢_}
 use mathlib.Core.Bool.{Bool, true, false, not}
@@ -8,29 +8,14 @@ use lib.ListN.{length, getD, set}
 use Rattle.kinds.specs.declared.Pair.{Pair}
 use Rattle.kinds.specs.Pairs.{beats}
 use Rattle.plain.specs.Plain.{hasX, has}
-use Rattle.kinds.specs.Stripe.{Stripe, In, Low, rootStripe, stripeAt, lowLevels, allLevels}
-use Rattle.trees.specs.Tree.{Tree, Mem, Well, itself}
-use Rattle.trees.specs.Changes.{Cut, takeOut}
-use Rattle.pools.specs.Cells.{perSlot, Fits, freeOf, freeMark, pairAt, leftAt, rightAt, sonAt, linkCell, putPair, putFree, treeAt, stored}
+use Rattle.trees.specs.Changes.{fill}
+use Rattle.pools.specs.Cells.{Fits, freeOf, pairAt, leftAt, rightAt, sonAt, linkCell, putPair, putFree, stored}
 use Rattle.pools.specs.Laid.{deleted}
-use Rattle.pools.specs.Sound.{Leads}
-use Rattle.pools.proofs.Agreement.{Holds}
-use Rattle.trees.proofs.Standing.{Stands, Distinct}
-use Rattle.changes.specs.Places.{Replaced}
+use Rattle.pools.specs.Sound.{Free}
+use Rattle.trees.specs.Tree.{itself}
+use Rattle.way.specs.Way.{treeThere, Place, Replaced}
 use Rattle.hole.specs.declared.Removal.{Removal}
 use Rattle.hole.specs.declared.Removal.the-variants.{Done, Missing, Other}
-
--- the tree at the place whose link is in a cell, read so many levels down
-abbrev pub placed : List ℕ → ℕ → ℕ → Tree Pair
-placed c k cell = treeAt c k (getD c cell 0)
-
--- a place that holds the tree t, whose slots all differ, and none of which has the place's own cell
-pub record Place (c : List ℕ) (cell : ℕ) (t : Tree Pair) : Type 0 where
-  pub inside : cell < length c
-  pub leads : Leads c (getD c cell 0) t
-  pub distinct : Distinct t
-  pub apart : Stands (cell / perSlot) t → ⊥
-  pub other : cell ≢ 2
 
 -- a slot and its sons are slots of the pool
 pub record Sons (c : List ℕ) (s : ℕ) : Type 0 where
@@ -63,45 +48,18 @@ pub record Releases (c : List ℕ) (cell s : ℕ) : Type 0 where
 unfoldable pub released : List ℕ → ℕ → ℕ → List ℕ
 released c cell s = set (putFree (set c cell 0) s (freeOf c)) 2 s
 
--- a hole at a place, k levels deep: there is a slot
+-- a hole: a place, with k levels below it, where there is a slot
 pub record Hole (c : List ℕ) (k cell : ℕ) : Type 0 where
-  pub place : Place c cell (placed c k cell)
+  pub place : Place c k cell
   pub there : getD c cell 0 ≢ 0
 
--- the place holds what is left, and the slot that was given up is in the free form, the first free one, pointing to the one that was
-pub record Freed (c : List ℕ) (cell : ℕ) (t : Tree Pair) (cut : Cut Pair) (d : List ℕ) : Type 0 where
-  pub place : Replaced c cell (cut .tree) t d
-  pub first : freeOf d ≡ cut .slot
-  pub given : Holds d (cut .slot) (record { x = 0; y = 0 }) freeMark (freeOf c)
-
--- what is known at a place on the way to p's x, with k levels below it
-pub record Looking (c : List ℕ) (k cell : ℕ) (at : Stripe) (p : Pair) : Type 0 where
-  pub place : Place c cell (placed c (suc k) cell)
-  pub well : Well itself at (placed c (suc k) cell)
-  pub low : Low at
-  -- a stripe of one x has no levels below it, and p's x, a 32-bit number, lies in the stripe
-  pub narrow : at .upper ≤ at .lower + 2 ^ k
-  pub within : In rootStripe (p .x) → In at (p .x)
-
--- how a removal ends at a place: x is not there, or with another y, and no cell has changed; or p is taken out
-pub data Removed (c : List ℕ) (cell : ℕ) (t : Tree Pair) (at : Stripe) (p : Pair) : Removal → List ℕ → Type 0 where
-  missing : ((q : Pair) → Mem q t → q .x ≡ p .x → ⊥) → Removed c cell t at p Missing c
-  other : (q : Pair) → Mem q t → q .x ≡ p .x → (q .y ≡ p .y → ⊥) → Removed c cell t at p Other c
-  done : {d : List ℕ} → Mem p t → Freed c cell t (takeOut itself (p .x) at t) d → Removed c cell t at p Done d
-
--- on the way to p's x, at a place with k levels below it: how a removal ends there it ends for the whole tree
-pub record Reached (c : List ℕ) (k cell : ℕ) (p : Pair) : Type 0 where
-  pub few : k ≤ lowLevels
-  pub at : Stripe
-  -- p's x is a 32-bit number
-  pub around : p .x < 4294967296 → at ≡ stripeAt k (p .x)
-  pub looking : Looking c k cell at p
-  pub whole : (r : Removal) (d : List ℕ) → Removed c cell (placed c (suc k) cell) at p r d → Removed c 1 (placed c allLevels 1) rootStripe p r d
-
--- the place where p's x is met, or an empty one, with k levels below it
-pub record Found (c : List ℕ) (p : Pair) (k cell : ℕ) : Type 0 where
-  pub reached : Reached c k cell p
-  pub met : getD c cell 0 ≢ 0 → pairAt c (getD c cell 0) .x ≡ p .x
+-- it is filled: the place holds what is left of its tree; the slot that was given up is the first free one, in the free form, and points to
+-- the one that was
+pub record Freed (c : List ℕ) (k cell : ℕ) (d : List ℕ) : Type 0 where
+  pub place : Replaced c cell (fill itself (treeThere c k cell) .tree) (treeThere c k cell) d
+  pub first : freeOf d ≡ fill itself (treeThere c k cell) .slot
+  pub form : Free d (freeOf d)
+  pub next : rightAt d (freeOf d) ≡ freeOf c
 
 -- how a deletion ends, over the stored list
 pub data Deletes (c : List ℕ) (p : Pair) : Removal → List ℕ → Type 0 where

@@ -1,13 +1,8 @@
-// Deletion: x is looked for by halving the stripe, and the hole that its pair leaves is filled.
+// Deletion: x is found on its way down, and the hole that its pair leaves is filled.
 use kinds::Pair;
-use kinds::Stripe;
 ghost use mathlib.Core.Path.{_≡_};
-ghost use Prim.Native.Nat.{suc};
-ghost use Rattle.trees.specs.Changes.{fill};
-ghost use Rattle.kinds.specs.Stripe.{rootStripe, lowLevels, allLevels};
 ghost use Rattle.pools.specs.Sound.{Sound};
-ghost use Rattle.trees.specs.Tree.{itself};
-ghost use Rattle.hole.specs.Hole.{placed, Sons, Heirs, Promotes, promoted, Releases, released, Hole, Freed, Looking, Removed, Found, Deletes};
+ghost use Rattle.hole.specs.Hole.{Sons, Heirs, Promotes, promoted, Releases, released, Hole, Freed, Deletes};
 
 // How a deletion ends.
 pub enum Removal {
@@ -61,8 +56,8 @@ fn release(pool: &mut [u32], cell: usize, slot: u32)
 
 // Fills the hole at the slot that a cell links to, with so many levels below it.
 fn fill(pool: &mut [u32], levels: u32, cell: usize)
-    requires { ⌜ Hole (now pool) (suc levels) cell ⌝ }
-    ensures { λ _. ⌜ Freed (now (pool .entry)) cell (placed (now (pool .entry)) (suc levels) cell) (fill itself (placed (now (pool .entry)) (suc levels) cell)) (now (pool .exit)) ⌝ }
+    requires { ⌜ Hole (now pool) levels cell ⌝ }
+    ensures { λ _. ⌜ Freed (now (pool .entry)) levels cell (now (pool .exit)) ⌝ }
 {
     let slot = pool[cell];
     let son = heir(pool, slot);
@@ -74,40 +69,13 @@ fn fill(pool: &mut [u32], levels: u32, cell: usize)
     fill(pool, levels - 1, son);
 }
 
-// Where a search ends: the cell of the link there, and the levels below it.
-struct Met {
-    cell: usize,
-    levels: u32,
-}
-
-// Where p's x is met from the root, by halving the stripe, or the empty place where the search ends.
-fn find(pool: &[u32], p: Pair) -> Met
-    requires { ⌜ Looking (now pool) lowLevels 1 rootStripe p ⌝ }
-    ensures { λ r. ⌜ Found (now (pool .entry)) p (r .levels) (r .cell) ⌝ }
+// Takes p out of a sound pool.
+pub fn delete(pool: &mut [u32], p: Pair) -> Removal
+    requires { ⌜ Sound (now pool) ⌝ }
+    ensures { λ r. ⌜ Deletes (now (pool .entry)) p r (now (pool .exit)) ⌝ }
 {
-    let mut cell = cells::ROOT_CELL;
-    let mut levels = Stripe::LEVELS;
-    loop {
-        let slot = pool[cell];
-        if slot == 0 {
-            return Met { cell, levels };
-        }
-        let q = cells::pair(pool, slot);
-        if q.x == p.x {
-            return Met { cell, levels };
-        }
-        cell = cells::link_cell(slot, Stripe::is_left(p.x, levels));
-        levels -= 1;
-    }
-}
-
-// Takes p out where its x is met.
-fn remove(pool: &mut [u32], p: Pair) -> Removal
-    requires { ⌜ Looking (now pool) lowLevels 1 rootStripe p ⌝ }
-    ensures { λ r. ⌜ Removed (now (pool .entry)) 1 (placed (now (pool .entry)) allLevels 1) rootStripe p r (now (pool .exit)) ⌝ }
-{
-    let met = find(pool, p);
-    let cell = met.cell;
+    let end = way::find(pool, p.x);
+    let cell = end.cell;
     let slot = pool[cell];
     if slot == 0 {
         return Removal::Missing;
@@ -116,23 +84,8 @@ fn remove(pool: &mut [u32], p: Pair) -> Removal
     if q.y != p.y {
         return Removal::Other;
     }
-    fill(pool, met.levels, cell);
+    fill(pool, end.levels, cell);
+    let left = cells::count(pool) - 1;
+    cells::put_count(pool, left);
     Removal::Done
-}
-
-// Takes p out of a sound pool.
-pub fn delete(pool: &mut [u32], p: Pair) -> Removal
-    requires { ⌜ Sound (now pool) ⌝ }
-    ensures { λ r. ⌜ Deletes (now (pool .entry)) p r (now (pool .exit)) ⌝ }
-{
-    let removal = remove(pool, p);
-    match removal {
-        Removal::Done => {
-            let left = cells::count(pool) - 1;
-            cells::put_count(pool, left);
-            Removal::Done
-        }
-        Removal::Missing => Removal::Missing,
-        Removal::Other => Removal::Other,
-    }
 }

@@ -2,7 +2,7 @@
 use Prim.Native.Nat.{ℕ, suc, _+_, _*_, _-_, _/_, _%_, _^_, _≤_, _<_}
 use mathlib.Core.Path.{_≡_, sym, ap, _∙_, subst}
 use native.Mathlib.Omega.{arith}
-use native.Mathlib.Nat.{two-pow-succ, one-le-pow, add-mul, mul-add, one-mul, div-add-mod', mod-lt, div-div-eq-div-mul, div-eq-of-lt-le, div-eq-of-lt, pow-suc, pow-le-pow-right, mod-eq-of-lt}
+use native.Mathlib.Nat.{two-pow-succ, one-le-pow, add-mul, mul-add, one-mul, div-add-mod', mod-lt, div-div-eq-div-mul, div-eq-of-lt-le, div-eq-of-lt, pow-suc}
 use lib.Dec.{ltb, eqb}
 use borrow.Author.Tests.{lt-ltb, le-ltb, eqb-true, eqb-false}
 use Rattle.kinds.specs.Stripe.{In, rootStripe, middle, leftPart, rightPart, partOf, stripeAt}
@@ -107,14 +107,3 @@ module _ (k x : ℕ) where
 -- law: the same of a level by its number
 pub bit-of : (k x : ℕ) → 1 ≤ k → eqb (x / 2 ^ (k - 1) % 2) 0 ≡ ltb x (middle (stripeAt k x))
 bit-of k x h = let e : suc (k - 1) ≡ k = omega arith in subst (λ m. eqb (x / 2 ^ (k - 1) % 2) 0 ≡ ltb x (middle (stripeAt m x))) e (bit-at (k - 1) x)
-
-pub part-of : (k x : ℕ) → 1 ≤ k → partOf (stripeAt k x) x ≡ stripeAt (k - 1) x
-part-of k x h = let e : suc (k - 1) ≡ k = omega arith in subst (λ m. partOf (stripeAt m x) x ≡ stripeAt (k - 1) x) e (part-at (k - 1) x)
-
--- law: and none beyond the root's
-pub narrow : (k : ℕ) → k ≤ 32 → 2 ^ k ≤ 4294967296
-narrow k h = pow-le-pow-right {n = 2} (omega arith) {i = k} {j = 32} h
-
--- law: it is worked out in 64 bits
-pub width-is : (k : ℕ) → k ≤ 32 → 1 * 2 ^ k % 18446744073709551616 ≡ 2 ^ k
-width-is k h = let n = narrow k h in ap (λ v. v % 18446744073709551616) (one-mul (2 ^ k)) ∙ mod-eq-of-lt (omega arith)

@@ -2,7 +2,7 @@
 ghost use mathlib.Core.Path.{_≡_};
 ghost use Prim.Native.Nat.{_≤_};
 ghost use lib.Dec.{ltb};
-ghost use Rattle.kinds.specs.Answer.{five};
+ghost use Rattle.kinds.specs.Answer.{five, finished, refused, ended, answered, listedBy};
 ghost use Rattle.kinds.specs.Pairs.{beats};
 ghost use Rattle.kinds.specs.Stripe.{Low, rootStripe, middle, leftPart, rightPart, partOf, stripeAt, holds};
 ghost use Rattle.kinds.specs.Shape.{stripeOf, Keyed};
@@ -110,20 +110,7 @@ impl Stripe {
         self.right()
     }
 
-    // The stripe that x lies in, with so many levels below it.
-    pub fn around(x: u32, levels: u32) -> Stripe
-        requires { ⌜ levels ≤ 32 ⌝ }
-        ensures { λ r. ⌜ stripeOf r ≡ stripeAt levels x ⌝ }
-    {
-        let width = 1u64 << levels;
-        let lower = x as u64 / width * width;
-        Stripe {
-            lower,
-            upper: lower + width,
-        }
-    }
-
-    // Whether x lies below the middle of that stripe: its bit at that level is 0.
+    // Whether x lies below the middle of the stripe that it lies in, with so many levels below it: its bit at that level is 0.
     pub fn is_left(x: u32, levels: u32) -> bool
         requires { ⌜ (1 ≤ levels) × (levels ≤ 32) ⌝ }
         ensures { λ r. ⌜ r ≡ ltb x (middle (stripeAt levels x)) ⌝ }
@@ -170,6 +157,67 @@ pub struct Answer {
 }
 
 impl Answer {
+    // A call that is done.
+    pub fn finished() -> Answer
+        ensures { λ r. ⌜ r ≡ finished ⌝ }
+    {
+        Answer {
+            outcome: Outcome::Listed {
+                count: 0,
+                more: false,
+            },
+            visits: 0,
+        }
+    }
+
+    // A call that is refused.
+    pub fn refused(code: u32) -> Answer
+        ensures { λ r. ⌜ r ≡ refused code ⌝ }
+    {
+        Answer {
+            outcome: Outcome::Refused(code),
+            visits: 0,
+        }
+    }
+
+    // A change that ends with a code.
+    pub fn ended(code: u32) -> Answer
+        ensures { λ r. ⌜ r ≡ ended code ⌝ }
+    {
+        if code == codes::DONE {
+            return Answer::finished();
+        }
+        Answer::refused(code)
+    }
+
+    // What a walk for one pair ends with.
+    pub fn walked(w: Walked) -> Answer
+        ensures { λ r. ⌜ r ≡ answered (w .finding) (w .visits) ⌝ }
+    {
+        let visits = w.visits;
+        let finding = w.finding;
+        match finding {
+            Finding::Found(p) => Answer {
+                outcome: Outcome::Found(p),
+                visits,
+            },
+            Finding::Nothing => Answer {
+                outcome: Outcome::Nothing,
+                visits,
+            },
+        }
+    }
+
+    // What a listing ends with.
+    pub fn listed(count: u32, more: bool, visits: u32) -> Answer
+        ensures { λ r. ⌜ r ≡ listedBy count more visits ⌝ }
+    {
+        Answer {
+            outcome: Outcome::Listed { count, more },
+            visits,
+        }
+    }
+
     // The five numbers of the answer.
     pub fn numbers(self) -> Five
         ensures { λ r. ⌜ r ≡ five self ⌝ }

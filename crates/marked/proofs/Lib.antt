@@ -1,5 +1,4 @@
--- Every call goes by its table; the marked cases hold; no wrong program keeps a promise.
-pub mod Tabled
+-- The marked cases hold; no wrong program keeps a promise; what is found next.
 pub mod Cases
 pub mod Samples
 pub mod Wrong

@@ -22,16 +22,17 @@ use Rattle.plain.proofs.Apart.{apart-same}
 use Rattle.plain.proofs.Scan.{smallestXOf-found, largestXOf-found, smallestYOf-found, smallestXOf-nothing, largestXOf-nothing, smallestYOf-nothing}
 use Rattle.pools.proofs.Stored.{stored-apart}
 use Rattle.kinds.proofs.Tests.{on, both, and-true}
-use Rattle.pool.specs.Asking.{smallestXAnswer, largestXAnswer, smallestYAnswer, listingLeft}
-use Rattle.pool.specs.Changing.{insertion, deletion}
+use Rattle.kinds.specs.Promise.{given}
+use Rattle.plain.specs.Books.{plainSmallestX, plainLargestX, plainSmallestY}
+use Rattle.sound.specs.Promises.{behindCheck}
+use Rattle.sound.proofs.Lines.{entry-made}
+use Rattle.answers.specs.Promises.{smallestXAsked, largestXAsked, smallestYAsked, listingAsked}
 use Rattle.pool.specs.Showing.{Shows}
-use Rattle.pool.proofs.Changes.{accepted-made, insertion-sound, insertion-stored, deletion-sound, deletion-gone}
+use Rattle.pool.proofs.Changes.{inserts, deletes, insert-accepted, insert-sound, insert-stored, delete-accepted, delete-sound, delete-gone}
 use Rattle.pool.proofs.Shown.{listing-shows}
-use Rattle.pool.proofs.Views.{insertion-view, deletion-view}
 use Rattle.runs.specs.Calls as calls
 use Rattle.runs.specs.Calls.{promised}
-use Rattle.runs.proofs.Plain.{smallestX-plain, largestX-plain, smallestY-plain}
-use Rattle.runs.proofs.TakenBack.{insertion-gains, deletion-loses}
+use Rattle.runs.proofs.TakenBack.{insert-gains, delete-loses}
 use Rattle.marked.specs.Next.{Finds, Misses}
 use Rattle.marked.specs.Wrong.{Program, KeepsAll}
 
@@ -88,31 +89,34 @@ module _ (g : Program) (keeps : KeepsAll g) {d : List ℕ} (s : Sound d) where
     not-beaten : (q : Pair) → List·Memᴰ q (stored d) → inRange (p .x) (p .x) q ≡ true → beats q p ≡ false
     not-beaten q n o = let e = alone q n (x-is (p .x) q o) in rw e (on (beats p p) (λ t. by-beats .asym p p t) (λ f. f))
 
-    found-smallest : smallestXAnswer d own .outcome ≡ found-pair p
+    found-smallest : given (behindCheck d (smallestXAsked d own)) d [] .answer .outcome ≡ found-pair p
+    unfolding smallestXAsked plainSmallestX
     found-smallest =
         let h = smallestXOf-found (stored d) (stored-apart s) p own .1 (record {
           member = m;
           fits = own-matches p;
           ahead = λ q n o. not-below (q .x) (p .x) (match-x (p .x) (p .y) q o);
         }) in
-        smallestX-plain s (stored d) (λ q. (λ m. m, λ m. m)) own ∙ rw (forwards, h)
+        rw (entry-made s (smallestXAsked d own) [] (forwards, tt), h)
 
-    found-largest : largestXAnswer d own .outcome ≡ found-pair p
+    found-largest : given (behindCheck d (largestXAsked d own)) d [] .answer .outcome ≡ found-pair p
+    unfolding largestXAsked plainLargestX
     found-largest =
         let h = largestXOf-found (stored d) (stored-apart s) p own .1 (record {
           member = m;
           fits = own-matches p;
           ahead = λ q n o. not-below (p .x) (q .x) (sym (match-x (p .x) (p .y) q o));
         }) in
-        largestX-plain s (stored d) (λ q. (λ m. m, λ m. m)) own ∙ rw (forwards, h)
+        rw (entry-made s (largestXAsked d own) [] (forwards, tt), h)
 
-    found-lowest : smallestYAnswer d (p .x) (p .x) .outcome ≡ found-pair p
+    found-lowest : given (behindCheck d (smallestYAsked d (p .x) (p .x))) d [] .answer .outcome ≡ found-pair p
+    unfolding smallestYAsked plainSmallestY
     found-lowest =
         let h = smallestYOf-found (stored d) (stored-apart s) p (p .x) (p .x) .1 (record { member = m; fits = own-range p; ahead = not-beaten }) in
-        smallestY-plain s (stored d) (λ q. (λ m. m, λ m. m)) (p .x) (p .x) ∙ rw (forwards, h)
+        rw (entry-made s (smallestYAsked d (p .x) (p .x)) [] (forwards, tt), h)
 
     module _ (out : List ℕ) (r : 1 ≤ roomOf out) where
-      abbrev shows : Shows d out (λ q. matches own q ≡ true) (listingLeft d own out)
+      abbrev shows : Shows d out (λ q. matches own q ≡ true) (given (behindCheck d (listingAsked d own out)) d out)
       shows = listing-shows s own out forwards
 
       listed-alone : shows .all ≡ p ∷ []
@@ -120,11 +124,11 @@ module _ (g : Program) (keeps : KeepsAll g) {d : List ℕ} (s : Sound d) where
           only-one p (shows .all) (shows .once) (shows .exactly p .1 (m, own-matches p))
           (λ q n. let e = shows .exactly q .0 n in alone q (e .0) (match-x (p .x) (p .y) q (e .1)))
 
-      found-listed : listingLeft d own out .answer .outcome ≡ Listed 1 false
+      found-listed : given (behindCheck d (listingAsked d own out)) d out .answer .outcome ≡ Listed 1 false
       found-listed = shows .outcome ∙ rw (listed-alone, take-one (roomOf out) p r, le-ltb (roomOf out) 1 r)
 
-      found-written : listingLeft d own out .cells ≡ written (p ∷ []) out
-      found-written = shows .cells ∙ rw (listed-alone, take-one (roomOf out) p r)
+      found-written : given (behindCheck d (listingAsked d own out)) d out .lent ≡ written (p ∷ []) out
+      found-written = shows .lent ∙ rw (listed-alone, take-one (roomOf out) p r)
 
     finds : Finds g d p
     unfolding promised
@@ -147,29 +151,32 @@ module _ (g : Program) (keeps : KeepsAll g) {d : List ℕ} (s : Sound d) where
     no-range : (q : Pair) → List·Memᴰ q (stored d) → inRange x x q ≡ false
     no-range q n = on (inRange x x q) (λ t. absurd (none q n (sym (x-is x q t)))) (λ f. f)
 
-    missed-smallest : (y1 : ℕ) → smallestXAnswer d (limits x x y1) .outcome ≡ no-pair
+    missed-smallest : (y1 : ℕ) → given (behindCheck d (smallestXAsked d (limits x x y1))) d [] .answer .outcome ≡ no-pair
+    unfolding smallestXAsked plainSmallestX
     missed-smallest y1 =
-        smallestX-plain s (stored d) (λ q. (λ m. m, λ m. m)) (limits x x y1) ∙ rw (onwards, smallestXOf-nothing (stored d) (limits x x y1) .1 (no-match y1))
+        rw (entry-made s (smallestXAsked d (limits x x y1)) [] (onwards, tt), smallestXOf-nothing (stored d) (limits x x y1) .1 (no-match y1))
 
-    missed-largest : (y1 : ℕ) → largestXAnswer d (limits x x y1) .outcome ≡ no-pair
+    missed-largest : (y1 : ℕ) → given (behindCheck d (largestXAsked d (limits x x y1))) d [] .answer .outcome ≡ no-pair
+    unfolding largestXAsked plainLargestX
     missed-largest y1 =
-        largestX-plain s (stored d) (λ q. (λ m. m, λ m. m)) (limits x x y1) ∙ rw (onwards, largestXOf-nothing (stored d) (limits x x y1) .1 (no-match y1))
+        rw (entry-made s (largestXAsked d (limits x x y1)) [] (onwards, tt), largestXOf-nothing (stored d) (limits x x y1) .1 (no-match y1))
 
-    missed-lowest : smallestYAnswer d x x .outcome ≡ no-pair
-    missed-lowest = smallestY-plain s (stored d) (λ q. (λ m. m, λ m. m)) x x ∙ rw (onwards, smallestYOf-nothing (stored d) x x .1 no-range)
+    missed-lowest : given (behindCheck d (smallestYAsked d x x)) d [] .answer .outcome ≡ no-pair
+    unfolding smallestYAsked plainSmallestY
+    missed-lowest = rw (entry-made s (smallestYAsked d x x) [] (onwards, tt), smallestYOf-nothing (stored d) x x .1 no-range)
 
     module _ (y1 : ℕ) (out : List ℕ) where
-      abbrev shows-none : Shows d out (λ q. matches (limits x x y1) q ≡ true) (listingLeft d (limits x x y1) out)
+      abbrev shows-none : Shows d out (λ q. matches (limits x x y1) q ≡ true) (given (behindCheck d (listingAsked d (limits x x y1) out)) d out)
       shows-none = listing-shows s (limits x x y1) out onwards
 
       none-listed : shows-none .all ≡ []
       none-listed = no-one (shows-none .all) (λ q n. let e = shows-none .exactly q .0 n in none q (e .0) (sym (match-x x y1 q (e .1))))
 
-      missed-listed : listingLeft d (limits x x y1) out .answer .outcome ≡ Listed 0 false
+      missed-listed : given (behindCheck d (listingAsked d (limits x x y1) out)) d out .answer .outcome ≡ Listed 0 false
       missed-listed = shows-none .outcome ∙ rw (none-listed, take-none (roomOf out), le-ltb (roomOf out) 0 (omega arith))
 
-      missed-written : listingLeft d (limits x x y1) out .cells ≡ out
-      missed-written = shows-none .cells ∙ rw (none-listed, take-none (roomOf out))
+      missed-written : given (behindCheck d (listingAsked d (limits x x y1) out)) d out .lent ≡ out
+      missed-written = shows-none .lent ∙ rw (none-listed, take-none (roomOf out))
 
     misses : Misses g d x
     unfolding promised
@@ -184,40 +191,40 @@ module _ (g : Program) (keeps : KeepsAll g) {d : List ℕ} (s : Sound d) where
 module _ (g : Program) (keeps : KeepsAll g) (t : ℕ) (c : List ℕ) (p : Pair) where
   -- law: an insert that is accepted changes the cells, and the pair is found by each next question
   module _ (small : p .x < 4294967296) (a : five (g t c (calls.insert p) .answer) .code ≡ 0) where
-    taken : five (insertion c p .answer) .code ≡ 0
+    taken : five (inserts c p .answer) .code ≡ 0
     unfolding promised
     taken = rw (keeps t c (calls.insert p)) at a
 
     pub insert-changes : g t c (calls.insert p) .cells ≢ c
     unfolding promised
     insert-changes e =
-        let n = insertion-gains c p small (eq-eqb _ 0 taken) in
-        let i : insertion c p .cells ≡ c = rw (keeps t c (calls.insert p)) at e in
+        let n = insert-gains c p small (eq-eqb _ 0 taken) in
+        let i : inserts c p .cells ≡ c = rw (keeps t c (calls.insert p)) at e in
         n .new (subst (λ l. List·Memᴰ p (stored l)) i (n .rest p .1 (inl refl)))
 
     pub insert-found : Finds g (g t c (calls.insert p) .cells) p
     unfolding promised
     insert-found =
         let k = eq-eqb _ 0 taken in
-        let s = accepted-made (insertion-view c p) k .0 .sound in
-        rw (keeps t c (calls.insert p)) (finds g keeps (insertion-sound c p small s) p (insertion-stored c p small k p .1 (inl refl)))
+        let s = insert-accepted c p k .0 .sound in
+        rw (keeps t c (calls.insert p)) (finds g keeps (insert-sound c p small s) p (insert-stored c p small k p .1 (inl refl)))
 
   -- law: a delete that is accepted changes the cells, and the pair is found by no next question
   module _ (a : five (g t c (calls.delete p) .answer) .code ≡ 0) where
-    gone : five (deletion c p .answer) .code ≡ 0
+    gone : five (deletes c p .answer) .code ≡ 0
     unfolding promised
     gone = rw (keeps t c (calls.delete p)) at a
 
     pub delete-changes : g t c (calls.delete p) .cells ≢ c
     unfolding promised
     delete-changes e =
-        let n = deletion-loses c p (eq-eqb _ 0 gone) in
-        let i : deletion c p .cells ≡ c = rw (keeps t c (calls.delete p)) at e in
+        let n = delete-loses c p (eq-eqb _ 0 gone) in
+        let i : deletes c p .cells ≡ c = rw (keeps t c (calls.delete p)) at e in
         n .new (subst (λ l. List·Memᴰ p (stored l)) (sym i) (n .rest p .1 (inl refl)))
 
     pub delete-missed : Misses g (g t c (calls.delete p) .cells) (p .x)
     unfolding promised
     delete-missed =
         let k = eq-eqb _ 0 gone in
-        let s = accepted-made (deletion-view c p) k .0 .sound in
-        rw (keeps t c (calls.delete p)) (misses g keeps (deletion-sound c p s) (p .x) (deletion-gone c p k))
+        let s = delete-accepted c p k .0 .sound in
+        rw (keeps t c (calls.delete p)) (misses g keeps (delete-sound c p s) (p .x) (delete-gone c p k))

@@ -13,17 +13,17 @@ use Rattle.trees.specs.Changes.{goDown, fill, takeOut, met}
 use Rattle.pools.specs.Laid.{lay, inserted, deleted}
 use Rattle.kinds.specs.Pairs.{beats}
 use Rattle.plain.specs.Plain.{smallestXOf, largestXOf, smallestYOf, hasX, has}
-use Rattle.kinds.specs.Refusals.{answerBy, leftBy}
+use Rattle.kinds.specs.Promise.{byLines}
 use Rattle.kinds.specs.Stripe as stripe
 use Rattle.pools.specs.Test.{isPool, slotFine, alone, fine, below, rootFine, freeFine, chainFine, restFine, isSound}
 use Rattle.walks.specs.Walks.{smallestX, largestX, smallestY, listing}
 use Rattle.kinds.proofs.Tests.{clash}
-use Rattle.sound.specs.Promises.{setUp, checked}
-use Rattle.pool.specs.Changing.{insertion, deletion}
-use Rattle.pool.specs.Asking.{smallestXAnswer, largestXAnswer, smallestYAnswer, listingLeft}
-use Rattle.strips.specs.Promises.{opening, closing, firstToEnd, lastToEnd, earliestStart, listCovers, listMeets, listContains}
-use Rattle.book.specs.Book.{byX, bookOf}
-use Rattle.book.specs.Promises.{saved}
+use Rattle.sound.specs.Promises as check-first
+use Rattle.sound.specs.Promises.{setUp}
+use Rattle.plain.specs.Books.{plainInsert, plainDelete, plainSmallestX, plainLargestX, plainSmallestY, plainListing}
+use Rattle.plain.specs.Strips.{plainOpen, plainClose, plainFirst, plainLast, plainEarliest, plainCovers, plainMeets, plainContains}
+use Rattle.pages.specs.Book.{byX, bookBytes, plainSave}
+use Rattle.answers.specs.Promises.{insertion, deletion, smallestXAsked, largestXAsked, smallestYAsked, listingAsked, opening, closing, firstToEnd, lastToEnd, earliestStart, listCovers, listMeets, listContains, saved}
 use Rattle.runs.specs.Calls.{promised}
 use Rattle.marked.specs.Wrong.{Kind, set-ups, inserts, deletes, smallest-xs, largest-xs, smallest-ys, listings, openings, closings, firsts, lasts, earliests, coverings, meetings, containings, checks, saves}
 use Rattle.marked.specs.Samples.{sample, Shown}
@@ -38,7 +38,7 @@ off i m n f c d ec ed e = eqb-false m n f (sym ec ∙ ap (λ c. getD c i 0) e �
 
 -- law: each kind's promise serves some input, answers another otherwise, and writes where its kind does
 pub shown : (K : Kind) → Shown K (sample K)
-unfolding five numbersOf promised setUp checked leftBy answerBy isPool fresh freeSlots insertion isSound rootFine slotFine below fine alone met stripe.holds restFine chainFine freeFine isFree storedFrom treeAt hasX has inserted lay goDown beats largestXAnswer largestXOf largestX deletion deleted fill takeOut smallestXAnswer smallestXOf smallestX smallestYAnswer smallestYOf smallestY listingLeft listing opening closing firstToEnd lastToEnd earliestStart listCovers listMeets listContains saved bookOf byX
+unfolding five numbersOf promised setUp check-first.check byLines isPool fresh freeSlots insertion isSound rootFine slotFine below fine alone met stripe.holds restFine chainFine freeFine isFree storedFrom treeAt hasX has inserted lay goDown beats largestXAsked largestXOf largestX deletion deleted fill takeOut smallestXAsked smallestXOf smallestX smallestYAsked smallestYOf smallestY listingAsked listing opening closing firstToEnd lastToEnd earliestStart listCovers listMeets listContains saved bookBytes byX plainInsert plainDelete plainSmallestX plainLargestX plainSmallestY plainListing plainOpen plainClose plainFirst plainLast plainEarliest plainCovers plainMeets plainContains plainSave
 shown set-ups = record { kind = refl; serves = refl; differs = apart 0 1 refl _ _ refl refl; writes = λ t e o. off 3 0 1 refl _ _ refl refl e }
 shown inserts = record { kind = refl; serves = refl; differs = apart 0 4 refl _ _ refl refl; writes = λ t e o. off 3 1 0 refl _ _ refl refl e }
 shown deletes = record { kind = refl; serves = refl; differs = apart 0 6 refl _ _ refl refl; writes = λ t e o. off 3 0 1 refl _ _ refl refl e }

@@ -1,34 +1,32 @@
 -- A program that keeps a promise is none of 01's five wrong programs. What it answers is the promise's, so each law is one of the promise.
-use Prim.Native.Nat.{ℕ, suc}
-use mathlib.Core.Path.{_≡_, refl, _∙_}
+use Prim.Native.Nat.{ℕ, suc, _+_, _*_}
+use mathlib.Core.Path.{_≡_, refl}
 use mathlib.Core.Logic.{inl, inr}
 use mathlib.Core.Bool.{true, false}
 use mathlib.Core.List.{List, [], _∷_}
-use Rattle.kinds.specs.declared.Answer.{Answer}
+use Rattle.kinds.specs.declared.Finding.{Finding}
+use Rattle.kinds.specs.declared.Finding.the-variants.{Found as found-pair, Nothing as no-pair}
 use Rattle.kinds.specs.declared.Outcome.{Outcome}
 use Rattle.kinds.specs.declared.Outcome.the-variants.{Found, Nothing, Listed, Refused}
-use Rattle.kinds.specs.Answer.{five, numbersOf}
-use Rattle.kinds.specs.Refusals.{Line, Left, Leaves}
+use Rattle.kinds.specs.Answer.{five, numbersOf, outcomeOf}
+use Rattle.kinds.specs.Promise.{Line, Result, NoLine, byLines}
 use Rattle.kinds.proofs.Promised.{one-answer}
+use Rattle.kinds.proofs.Tables.{none-holds}
 use Rattle.kinds.proofs.Tests.{on, clash}
-use Rattle.runs.specs.Calls.{Call, Result, changes, asks, writes, promised, lentBy, Each}
-use Rattle.runs.specs.Playing.{play, Book, playAll, plainlyAll, SmallX, Same, Agrees}
+use Rattle.plain.specs.Books.{Book, plainInsert, plainDelete, plainSmallestX, plainLargestX, plainSmallestY, plainListing}
+use Rattle.plain.specs.Plain.{smallestXOf, largestXOf, smallestYOf}
+use Rattle.plain.specs.Strips.{coversLimits, lastLimits, plainOpen, plainClose, plainFirst, plainLast, plainEarliest, plainCovers, plainMeets, plainContains}
+use Rattle.pools.specs.Cells.{stored}
+use Rattle.pages.specs.Book.{plainSave}
+use Rattle.sound.specs.Promises as check-first
+use Rattle.sound.specs.Promises.{setUp}
+use Rattle.answers.specs.Promises.{insertion, deletion, smallestXAsked, largestXAsked, smallestYAsked, listingAsked, opening, closing, firstToEnd, lastToEnd, earliestStart, listCovers, listMeets, listContains, saved}
+use Rattle.runs.specs.Calls.{Call, set-up, check, insert, delete, smallest-x, largest-x, smallest-y, list, opens, closes, first, last, earliest, covers, meets, contains, save, promised, lentBy, play, SmallX, Each}
+use Rattle.runs.specs.Playing.{playAll, plainlyAll, Same, Agrees}
 use Rattle.runs.proofs.Played.{plays-all}
-use Rattle.marked.specs.Tables.{linesOf, visitsOf, isRefusal, NoLine, byTable}
-use Rattle.marked.specs.Wrong.{Program, Kind, kindOf, writesOf, Keeps, KeepsAll, AlwaysRefuses, OneAnswer, Idle, Pretends, MadeUp, Wrong, refuses, constant, idle, pretends, made-up, Served, runs}
+use Rattle.marked.specs.Wrong.{isRefusal, visitsOf, Program, Kind, kindOf, writesOf, Keeps, KeepsAll, AlwaysRefuses, OneAnswer, Idle, Pretends, MadeUp, Wrong, refuses, constant, idle, pretends, made-up, Served, runs}
 use Rattle.marked.specs.Samples.{sample}
-use Rattle.marked.proofs.Tabled.{tabled, none-holds}
 use Rattle.marked.proofs.Samples.{shown}
-
--- a contract that cites a promise says what `Keeps` asks: of a change, of a question, and of a call that writes into a lent slice
-pub change-keeps : {w : Left} {d : List ℕ} {r : Answer} → Leaves w d r → record { cells = d; lent = []; answer = r } ≡ changes w
-change-keeps h = λ i. record { cells = h .cells i; lent = []; answer = h .answer i }
-
-pub question-keeps : (c : List ℕ) {a r : Answer} → r ≡ a → record { cells = c; lent = []; answer = r } ≡ asks c a
-question-keeps c e = λ i. record { cells = c; lent = []; answer = e i }
-
-pub writing-keeps : (c : List ℕ) {w : Left} {d : List ℕ} {r : Answer} → Leaves w d r → record { cells = c; lent = d; answer = r } ≡ writes c w
-writing-keeps c h = λ i. record { cells = c; lent = h .cells i; answer = h .answer i }
 
 -- the code of an outcome that is no refusal
 served-code : (o : Outcome) (v : ℕ) → isRefusal o ≡ false → Served (numbersOf o v .code)
@@ -48,9 +46,35 @@ served-visits (Listed n false) v f = refl
 served-visits (Listed n true) v f = refl
 served-visits (Refused k) v f = absurd (clash refl f)
 
+-- a finding is no refusal
+finding-serves : (f : Finding) → isRefusal (outcomeOf f) ≡ false
+finding-serves (found-pair p) = refl
+finding-serves no-pair = refl
+
+-- what no line of a call's table refuses is no refusal
+serves : (c : List ℕ) (k : Call) → isRefusal (promised c k .made .answer .outcome) ≡ false
+unfolding promised setUp check-first.check insertion plainInsert deletion plainDelete smallestXAsked plainSmallestX largestXAsked plainLargestX smallestYAsked plainSmallestY listingAsked plainListing opening plainOpen closing plainClose firstToEnd plainFirst lastToEnd plainLast earliestStart plainEarliest listCovers plainCovers listMeets plainMeets listContains plainContains saved plainSave
+serves c set-up = refl
+serves c check = refl
+serves c (insert p) = refl
+serves c (delete p) = refl
+serves c (smallest-x q) = finding-serves (smallestXOf q (stored c))
+serves c (largest-x q) = finding-serves (largestXOf q (stored c))
+serves c (smallest-y x0 x1) = finding-serves (smallestYOf x0 x1 (stored c))
+serves c (list q out) = refl
+serves c (opens n) = refl
+serves c (closes n) = refl
+serves c (first u) = finding-serves (smallestXOf (coversLimits u) (stored c))
+serves c (last u e) = finding-serves (largestXOf (lastLimits u e) (stored c))
+serves c (earliest u v) = finding-serves (smallestYOf (u * 65536) (v * 65536 + 65535) (stored c))
+serves c (covers u out) = refl
+serves c (meets u v out) = refl
+serves c (contains u v out) = refl
+serves c (save bytes) = refl
+
 -- what a table gives and does not refuse is what it makes
-table-made : (ls : List Line) (c out : List ℕ) (made : Result) → isRefusal (byTable ls c out made .answer .outcome) ≡ false → byTable ls c out made ≡ made
-unfolding byTable
+table-made : (ls : List Line) (c out : List ℕ) (made : Result) → isRefusal (byLines ls c out made .answer .outcome) ≡ false → byLines ls c out made ≡ made
+unfolding byLines
 table-made [] c out made f = refl
 table-made (l ∷ ls) c out made f = on (l .when)
     (λ t. absurd (clash refl (rw t at f)))
@@ -58,23 +82,22 @@ table-made (l ∷ ls) c out made f = on (l .when)
 
 module _ (c : List ℕ) (k : Call) where
   -- law: what no line of a call's table refuses is answered with 0, 8 or 10
-  pub accepted-code : NoLine (linesOf c k) → Served (five (promised c k .answer) .code)
+  pub accepted-code : NoLine (promised c k .lines) → Served (five (play c k .answer) .code)
   unfolding five
   accepted-code n =
-      let w = tabled c k in
-      rw (w .table, none-holds (linesOf c k) c (lentBy k) (w .made) n) (served-code (w .made .answer .outcome) (w .made .answer .visits) (w .serves))
+      rw (none-holds c (lentBy k) (promised c k .made) (promised c k .lines) n)
+      (served-code (promised c k .made .answer .outcome) (promised c k .made .answer .visits) (serves c k))
 
   -- law: the visits that a call reports, where it is not refused, are those of its walk
-  pub walk-visits : isRefusal (promised c k .answer .outcome) ≡ false → five (promised c k .answer) .visits ≡ visitsOf c k
+  pub walk-visits : isRefusal (play c k .answer .outcome) ≡ false → five (play c k .answer) .visits ≡ visitsOf c k
   unfolding five
   walk-visits f =
-      let w = tabled c k in
-      let m = table-made (linesOf c k) c (lentBy k) (w .made) (rw (w .table) at f) in
-      rw (w .table, m) (served-visits (w .made .answer .outcome) (w .made .answer .visits) (w .serves) ∙ w .visits)
+      rw (table-made (promised c k .lines) c (lentBy k) (promised c k .made) f)
+      (served-visits (promised c k .made .answer .outcome) (promised c k .made .answer .visits) (serves c k))
 
 module _ (K : Kind) (g : Program) (keeps : Keeps K g) where
   -- law: what no line of the call's table refuses it answers with 0, 8 or 10
-  pub serves-unrefused : (t : ℕ) (c : List ℕ) (k : Call) → kindOf k ≡ K → NoLine (linesOf c k) → Served (five (g t c k .answer) .code)
+  pub serves-unrefused : (t : ℕ) (c : List ℕ) (k : Call) → kindOf k ≡ K → NoLine (promised c k .lines) → Served (five (g t c k .answer) .code)
   serves-unrefused t c k e n = rw (keeps t c k e) (accepted-code c k n)
 
   -- law: there is an input that it does not refuse, whenever it comes; so it does not always refuse
@@ -91,8 +114,8 @@ module _ (K : Kind) (g : Program) (keeps : Keeps K g) where
       let k = sample K .call in
       let c = sample K .served in
       let d = sample K .otherwise in
-      let e : five (promised c k .answer) ≡ a .answer = rw (keeps 0 c k (s .kind)) at (a .always 0 c k (s .kind)) in
-      let f : five (promised d k .answer) ≡ a .answer = rw (keeps 0 d k (s .kind)) at (a .always 0 d k (s .kind)) in
+      let e : five (play c k .answer) ≡ a .answer = rw (keeps 0 c k (s .kind)) at (a .always 0 c k (s .kind)) in
+      let f : five (play d k .answer) ≡ a .answer = rw (keeps 0 d k (s .kind)) at (a .always 0 d k (s .kind)) in
       s .differs (one-answer e f)
 
   -- law: where calls of its kind write, it does not leave all that it is lent as it was
@@ -127,10 +150,10 @@ module _ (K : Kind) (g : Program) (keeps : Keeps K g) where
 
 module _ (g : Program) (keeps : KeepsAll g) where
   runs-played : (t : ℕ) (ks : List Call) (c : List ℕ) → runs g t ks c ≡ playAll ks c
-  unfolding runs playAll play
+  unfolding runs playAll
   runs-played t [] c = refl
-  runs-played t (k ∷ ks) c = rw (keeps t c k, runs-played (suc t) ks (promised c k .cells))
+  runs-played t (k ∷ ks) c = rw (keeps t c k, runs-played (suc t) ks (play c k .cells))
 
   -- law: over whole sequences of any calls, however late they start, its outcomes and its stored set are those of a plain list
-  pub run-agrees : (t : ℕ) (ks : List Call) (c : List ℕ) (b : Book) → Each SmallX ks → Same c b → Agrees (runs g t ks c) (plainlyAll ks b)
+  pub run-agrees : (t : ℕ) (ks : List Call) (c : List ℕ) (b : Book) → Each SmallX ks → Same c b → Agrees ks (runs g t ks c) (plainlyAll ks b)
   run-agrees t ks c b z h = rw (runs-played t ks c) (plays-all ks c b z h)

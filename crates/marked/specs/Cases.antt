@@ -5,10 +5,11 @@ use mathlib.Core.List.{List, [], _∷_}
 use lib.ListN.{length, replicate}
 use Rattle.kinds.specs.declared.Five.{Five}
 use Rattle.kinds.specs.Answer.{five}
-use Rattle.pools.specs.Cells.{rootOf, freeOf, pairAt, leftAt, rightAt, freeMark}
+use Rattle.pools.specs.Cells.{perSlot, rootOf, freeOf, pairAt, leftAt, rightAt, freeMark}
 use Rattle.plain.specs.Plain.{limits}
-use Rattle.strips.specs.Strips.{numberOf}
-use Rattle.runs.specs.Calls.{Call, set-up, check, insert, delete, smallest-x, largest-x, smallest-y, list, opens, closes, first, covers, Result, promised, lentBy}
+use Rattle.plain.specs.Strips.{numberOf}
+use Rattle.kinds.specs.Promise.{Result}
+use Rattle.runs.specs.Calls.{Call, set-up, check, insert, delete, smallest-x, largest-x, smallest-y, list, opens, closes, first, covers, lentBy, play}
 
 -- code, x, y, count listed, visits
 abbrev pub numbers : (code x y count visits : ℕ) → Five
@@ -34,8 +35,8 @@ pub data Sight : Type 0 where
 -- what is seen, step by step, by the promises: each call works on the cells that the former left
 abbrev pub seen : List Step → List ℕ → List Sight
 seen [] c = []
-seen (gives k a ∷ ss) c = let w : Result = promised c k in the-answer (five (w .answer)) ∷ seen ss (w .cells)
-seen (fills k a out ∷ ss) c = let w : Result = promised c k in the-answer (five (w .answer)) ∷ the-cells (w .lent) ∷ seen ss (w .cells)
+seen (gives k a ∷ ss) c = let w : Result = play c k in the-answer (five (w .answer)) ∷ seen ss (w .cells)
+seen (fills k a out ∷ ss) c = let w : Result = play c k in the-answer (five (w .answer)) ∷ the-cells (w .lent) ∷ seen ss (w .cells)
 seen (reads f n ∷ ss) c = the-number (f c) ∷ seen ss c
 seen (holds d ∷ ss) c = the-cells c ∷ seen ss c
 
@@ -57,27 +58,27 @@ pub data Case : Type 0 where
   refuses : (P length : ℕ) → Case
 
 -- done, with nothing found and no visits
-abbrev pub done : Five
-done = numbers 0 0 0 0 0
+abbrev pub zeros : Five
+zeros = numbers 0 0 0 0 0
 
 -- the cells of a pool of n slots before set up: they may hold anything, and hold 77 here
 abbrev pub lentCells : ℕ → List ℕ
-lentCells n = replicate (4 * (n + 1)) 77
+lentCells n = replicate (perSlot * (n + 1)) 77
 
 -- set up is done on any cells of this length, and check then says sound
 pub record Serves (c : List ℕ) : Type 0 where
-  pub set-up-done : five (promised c set-up .answer) ≡ done
-  pub check-done : five (promised (promised c set-up .cells) check .answer) ≡ done
+  pub set-up-done : five (play c set-up .answer) ≡ zeros
+  pub check-done : five (play (play c set-up .cells) check .answer) ≡ zeros
 
 -- a call gives 1 and changes nothing that it was lent
 pub record Refuses (c : List ℕ) (k : Call) : Type 0 where
-  pub answer : five (promised c k .answer) ≡ numbers 1 0 0 0 0
-  pub cells : promised c k .cells ≡ c
-  pub lent : promised c k .lent ≡ lentBy k
+  pub answer : five (play c k .answer) ≡ numbers 1 0 0 0 0
+  pub cells : play c k .cells ≡ c
+  pub lent : play c k .lent ≡ lentBy k
 
 -- a case holds: by its steps; or for all cells of its length, and for every call where that is refused
 abbrev pub Holds : Case → Type 0
-Holds (played P n ss) = seen (gives set-up done ∷ ss) (lentCells n) ≡ said (gives set-up done ∷ ss)
+Holds (played P n ss) = seen (gives set-up zeros ∷ ss) (lentCells n) ≡ said (gives set-up zeros ∷ ss)
 Holds (serves P n) = (c : List ℕ) → length c ≡ n → Serves c
 Holds (refuses P n) = (c : List ℕ) → length c ≡ n → (k : Call) → Refuses c k
 
@@ -110,16 +111,16 @@ largest = 4294967295
 -- P1 [5, 1], [2147483648, 2]: largest x in 0..2147483648, y ≤ 9 is 2147483648, 2 visits
 abbrev pub halfway : List Step
 halfway =
-    gives (inserts 5 1) done
-    ∷ gives (inserts 2147483648 2) done
+    gives (inserts 5 1) zeros
+    ∷ gives (inserts 2147483648 2) zeros
     ∷ gives (largestX 0 2147483648 9) (numbers 0 2147483648 2 0 2)
     ∷ []
 
 -- P2 [9, 2], [5, 3]: insert [5, 1] gives 4
 abbrev pub repeated : List Step
 repeated =
-    gives (inserts 9 2) done
-    ∷ gives (inserts 5 3) done
+    gives (inserts 9 2) zeros
+    ∷ gives (inserts 5 3) zeros
     ∷ gives (inserts 5 1) (numbers 4 0 0 0 0)
     ∷ []
 
@@ -134,7 +135,7 @@ tie =
 -- P4 n = 1 with [1, 1]: insert [2, 2] gives 5, [1, 9] gives 4; delete [1, 2] gives 7, [3, 1] gives 6
 abbrev pub fullPool : List Step
 fullPool =
-    gives (inserts 1 1) done
+    gives (inserts 1 1) zeros
     ∷ gives (inserts 2 2) (numbers 5 0 0 0 0)
     ∷ gives (inserts 1 9) (numbers 4 0 0 0 0)
     ∷ gives (deletes 1 2) (numbers 7 0 0 0 0)
@@ -144,8 +145,8 @@ fullPool =
 -- P6 [0, 0] and [4294967295, 4294967295] are stored and found, by each question
 abbrev pub ends : List Step
 ends =
-    gives (inserts 0 0) done
-    ∷ gives (inserts largest largest) done
+    gives (inserts 0 0) zeros
+    ∷ gives (inserts largest largest) zeros
     ∷ gives (smallestX 0 0 0) (numbers 0 0 0 0 1)
     ∷ gives (smallestX largest largest largest) (numbers 0 largest largest 0 2)
     ∷ gives (largestX 0 0 0) (numbers 0 0 0 0 1)
@@ -157,7 +158,7 @@ ends =
 
 -- the three script strips, opened in that order, and then
 abbrev pub script : List Step → List Step
-script ss = gives (opening 10 20 1) done ∷ gives (opening 5 20 2) done ∷ gives (opening 12 12 3) done ∷ ss
+script ss = gives (opening 10 20 1) zeros ∷ gives (opening 5 20 2) zeros ∷ gives (opening 12 12 3) zeros ∷ ss
 
 -- P7 slot 20 is covered by two, slot 21 by none, slot 4 by none
 abbrev pub covered : List Step
@@ -185,19 +186,19 @@ three =
 abbrev pub closed : List Step
 closed = script (
     holds three
-    ∷ gives (closing 10 20 1) done
+    ∷ gives (closing 10 20 1) zeros
     ∷ reads (λ c. numberOf (pairAt c 2)) 3
     ∷ reads freeOf 3
     ∷ reads (λ c. leftAt c 3) freeMark
     ∷ reads (λ c. rightAt c 3) 4
-    ∷ gives (opening 10 20 1) done
+    ∷ gives (opening 10 20 1) zeros
     ∷ holds three
     ∷ [])
 
 -- P9 room 0 with a match gives 10, no cell written; with no match 0
 abbrev pub noRoom : List Step
 noRoom =
-    gives (inserts 1 1) done
+    gives (inserts 1 1) zeros
     ∷ fills (lists 0 9 9 []) (numbers 10 0 0 0 1) []
     ∷ fills (lists 0 9 9 (7 ∷ [])) (numbers 10 0 0 0 1) (7 ∷ [])
     ∷ fills (lists 2 9 9 []) (numbers 0 0 0 0 1) []
@@ -210,8 +211,8 @@ abbrev pub cases : List Case
 cases =
     played 1 2 halfway
     ∷ played 2 3 repeated
-    ∷ played 3 2 (gives (inserts 7 4) done ∷ gives (inserts 3 4) done ∷ tie)
-    ∷ played 3 2 (gives (inserts 3 4) done ∷ gives (inserts 7 4) done ∷ tie)
+    ∷ played 3 2 (gives (inserts 7 4) zeros ∷ gives (inserts 3 4) zeros ∷ tie)
+    ∷ played 3 2 (gives (inserts 3 4) zeros ∷ gives (inserts 7 4) zeros ∷ tie)
     ∷ played 4 1 fullPool
     ∷ serves 5 8
     ∷ serves 5 16384

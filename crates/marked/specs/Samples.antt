@@ -8,9 +8,8 @@ use lib.ListN.{replicate}
 use Rattle.kinds.specs.Answer.{five}
 use Rattle.pools.specs.Cells.{freeMark}
 use Rattle.plain.specs.Plain.{limits}
-use Rattle.runs.specs.Calls.{Named, Call, set-up, check, insert, delete, smallest-x, largest-x, smallest-y, list, opens, closes, first, last, earliest, covers, meets, contains, save, promised, lentBy}
-use Rattle.marked.specs.Tables.{isRefusal}
-use Rattle.marked.specs.Wrong.{Kind, set-ups, inserts, deletes, smallest-xs, largest-xs, smallest-ys, listings, openings, closings, firsts, lasts, earliests, coverings, meetings, containings, checks, saves, kindOf, writesOf}
+use Rattle.runs.specs.Calls.{Named, Call, set-up, check, insert, delete, smallest-x, largest-x, smallest-y, list, opens, closes, first, last, earliest, covers, meets, contains, save, lentBy, play}
+use Rattle.marked.specs.Wrong.{isRefusal, Kind, set-ups, inserts, deletes, smallest-xs, largest-xs, smallest-ys, listings, openings, closings, firsts, lasts, earliests, coverings, meetings, containings, checks, saves, kindOf, writesOf}
 
 -- a pool of one slot with nothing stored
 abbrev pub empty : List ℕ
@@ -61,6 +60,6 @@ sample saves = on (save (replicate 13 7)) one []
 -- what a kind's sample shows of its promise: it does not refuse everything, it does not always answer the same, and it writes where its kind does
 pub record Shown (K : Kind) (s : Sample) : Type 0 where
   pub kind : kindOf (s .call) ≡ K
-  pub serves : isRefusal (promised (s .served) (s .call) .answer .outcome) ≡ false
-  pub differs : five (promised (s .served) (s .call) .answer) ≢ five (promised (s .otherwise) (s .call) .answer)
-  pub writes : writesOf K ≡ true → promised (s .served) (s .call) .cells ≡ s .served → promised (s .served) (s .call) .lent ≡ lentBy (s .call) → ⊥
+  pub serves : isRefusal (play (s .served) (s .call) .answer .outcome) ≡ false
+  pub differs : five (play (s .served) (s .call) .answer) ≢ five (play (s .otherwise) (s .call) .answer)
+  pub writes : writesOf K ≡ true → play (s .served) (s .call) .cells ≡ s .served → play (s .served) (s .call) .lent ≡ lentBy (s .call) → ⊥

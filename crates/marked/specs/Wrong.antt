@@ -5,14 +5,27 @@ use mathlib.Core.Logic.{_≢_, _⊎_}
 use mathlib.Core.Bool.{Bool, true, false}
 use mathlib.Core.List.{List, [], _∷_}
 use Rattle.kinds.specs.declared.Five.{Five}
+use Rattle.kinds.specs.declared.Outcome.{Outcome}
+use Rattle.kinds.specs.declared.Outcome.the-variants.{Found, Nothing, Listed, Refused}
 use Rattle.kinds.specs.Answer.{five}
-use Rattle.runs.specs.Calls.{Call, set-up, check, insert, delete, smallest-x, largest-x, smallest-y, list, opens, closes, first, last, earliest, covers, meets, contains, save, Result, promised, lentBy}
+use Rattle.kinds.specs.Promise.{Result}
+use Rattle.runs.specs.Calls.{Call, set-up, check, insert, delete, smallest-x, largest-x, smallest-y, list, opens, closes, first, last, earliest, covers, meets, contains, save, promised, lentBy, play}
 use Rattle.runs.specs.Playing.{Run}
-use Rattle.marked.specs.Tables.{isRefusal, visitsOf}
 
 -- what a program does at a call: it knows how many calls came before, so it may behave otherwise later; the lent cells; and what is passed in
 abbrev pub Program : Type 0
 Program = (before : ℕ) (cells : List ℕ) (call : Call) → Result
+
+-- the outcome is a refusal
+abbrev pub isRefusal : Outcome → Bool
+isRefusal (Found p) = false
+isRefusal Nothing = false
+isRefusal (Listed n more) = false
+isRefusal (Refused code) = true
+
+-- how many slots a call's walk visits, by its promise; a change has no walk that counts, nor have set up, check and the book
+abbrev pub visitsOf : List ℕ → Call → ℕ
+visitsOf c k = promised c k .made .answer .visits
 
 -- the kinds of call: over a pool, over strips, the check, and writing the book
 pub data Kind : Type 0 where
@@ -62,11 +75,11 @@ writesOf saves = true
 
 -- the program meets the promise of a kind's calls, at every input and whenever it is called
 abbrev pub Keeps : Kind → Program → Type 0
-Keeps K g = (t : ℕ) (c : List ℕ) (k : Call) → kindOf k ≡ K → g t c k ≡ promised c k
+Keeps K g = (t : ℕ) (c : List ℕ) (k : Call) → kindOf k ≡ K → g t c k ≡ play c k
 
 -- it meets the promise of every call
 abbrev pub KeepsAll : Program → Type 0
-KeepsAll g = (t : ℕ) (c : List ℕ) (k : Call) → g t c k ≡ promised c k
+KeepsAll g = (t : ℕ) (c : List ℕ) (k : Call) → g t c k ≡ play c k
 
 -- always refusing
 abbrev pub AlwaysRefuses : Kind → Program → Type 0
@@ -113,8 +126,8 @@ Served code = (code ≡ 0) ⊎ ((code ≡ 8) ⊎ (code ≡ 10))
 
 -- a program's own run of calls, each on the cells that the former left
 unfoldable pub runs : Program → ℕ → List Call → List ℕ → Run
-runs g t [] c = record { outcomes = []; cells = c }
+runs g t [] c = record { results = []; cells = c }
 runs g t (k ∷ ks) c =
     let w : Result = g t c k in
     let r : Run = runs g (suc t) ks (w .cells) in
-    record { outcomes = w .answer .outcome ∷ r .outcomes; cells = r .cells }
+    record { results = w ∷ r .results; cells = r .cells }

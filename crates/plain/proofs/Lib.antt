@@ -5,3 +5,6 @@ pub mod Having
 pub mod Closest
 pub mod Scan
 pub mod Counts
+pub mod Alike
+pub mod InOrder
+pub mod Limits

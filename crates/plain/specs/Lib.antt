@@ -1,2 +1,5 @@
--- A book as a plain list, and what each question finds in it.
+-- A book as a plain list: what each question finds in it (Plain), the calls over it (Books), strips and their calls (Strips); and the order of the codes (Order).
 pub mod Plain
+pub mod Books
+pub mod Strips
+pub mod Order

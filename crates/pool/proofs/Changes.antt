@@ -1,67 +1,139 @@
--- After a change the pool is sound, and its stored set is the old one with exactly that pair more or less.
+-- What insert and delete do, on any cells: they refuse and leave every cell, or the pool is sound and the change is made; then the pool is
+-- sound again, and its stored set is the old one with exactly that pair more or less. The x of an inserted pair is of 32 bits.
 use Prim.Native.Nat.{ℕ, _<_}
-use mathlib.Core.Path.{_≡_, refl}
+use mathlib.Core.Path.{_≡_, refl, sym, ap, _∙_}
 use mathlib.Core.Logic.{_≢_, _↔_, _⊎_}
-use mathlib.Core.Bool.{true, false}
-use mathlib.Core.List.{List, List·Memᴰ}
-use borrow.Author.Tests.{ne-eqb}
+use mathlib.Core.Bool.{true, false, not}
+use mathlib.Core.List.{List, [], List·Memᴰ}
+use native.Mathlib.Omega.{arith}
+use borrow.Author.Tests.{eqb-false, ne-eqb, not-false}
 use Rattle.kinds.specs.declared.Pair.{Pair}
 use Rattle.kinds.specs.Answer.{five, numbersOf}
-use Rattle.pools.specs.Cells.{stored}
-use Rattle.kinds.specs.Refusals.{Left}
-use Rattle.pools.specs.Sound.{Sound}
-use Rattle.trees.specs.Tree.{itself, bare}
+use Rattle.kinds.specs.Promise.{Result, NoLine, given, accepted}
 use Rattle.kinds.specs.Stripe.{rootStripe}
-use Rattle.kinds.proofs.Tests.{clash}
-use Rattle.pools.proofs.Decided.{sound-well}
+use Rattle.kinds.proofs.Tables.{Decided, decided, none-holds, refused-same, accepted-made, given-either}
+use Rattle.kinds.proofs.Tests.{and-false, on}
+use Rattle.plain.specs.Books.{plainInsert, plainDelete}
+use Rattle.plain.specs.Plain.{hasX, has}
+use Rattle.trees.specs.Tree.{itself, Mem, bare}
 use Rattle.trees.proofs.Same.{same-set}
-use Rattle.pools.proofs.Stored.{stored-mem}
-use Rattle.pools.proofs.Inserted.{inserted-sound, inserted-stored}
+use Rattle.pools.specs.Cells.{freeOf, stored}
+use Rattle.pools.specs.Laid.{inserted, deleted}
+use Rattle.pools.specs.Sound.{Sound}
+use Rattle.pools.proofs.Decided.{test-sound, sound-well}
 use Rattle.pools.proofs.Deleted.{deleted-sound, deleted-stored, deleted-gone}
-use Rattle.pool.specs.Changing.{insertion, deletion, accepted}
-use Rattle.pool.proofs.Views.{Does, refuses, makes, insertion-view, deletion-view}
+use Rattle.pools.proofs.InTree.{new-of, of-new, has-mem, mem-has, mem-hasX, full-is}
+use Rattle.pools.proofs.Inserted.{inserted-sound, inserted-stored}
+use Rattle.pools.proofs.Stored.{stored-mem}
+use Rattle.sound.specs.Promises.{behindCheck}
+use Rattle.sound.proofs.Lines.{no-line}
+use Rattle.down.specs.Down.{Enters}
+use Rattle.answers.specs.Promises.{insertion, deletion}
 
-module _ {c d : List ℕ} {M : Type 0} where
-  -- a refusal leaves every cell
-  pub refused-same : {w : Left} → Does c d M w → accepted w ≡ false → w .cells ≡ c
-  unfolding five numbersOf
-  refused-same (refuses k n) f = refl
-  refused-same (makes m) f = absurd (clash refl f)
-
-  -- what is known where a change is accepted
-  pub accepted-made : {w : Left} → Does c d M w → accepted w ≡ true → M × (w .cells ≡ d)
-  unfolding five numbersOf
-  accepted-made (refuses k n) t = absurd (clash t (ne-eqb k 0 n))
-  accepted-made (makes m) t = (m, refl)
-
-  -- what holds of the cells before and after holds of what a change leaves
-  pub does-either : (P : List ℕ → Type 0) {w : Left} → Does c d M w → P c → (M → P d) → P (w .cells)
-  does-either P (refuses k n) h g = h
-  does-either P (makes m) h g = g m
+-- what a deletion that is made may rely on
+pub record Exits (c : List ℕ) (p : Pair) : Type 0 where
+  pub sound : Sound c
+  pub member : Mem p (sound .tree)
 
 module _ (c : List ℕ) (p : Pair) where
-  pub insertion-sound : p .x < 4294967296 → Sound c → Sound (insertion c p .cells)
-  insertion-sound b s = does-either Sound (insertion-view c p) s (λ e. inserted-sound (e .sound) p (e .new) b (e .room))
+  -- insert, and delete, on any cells
+  abbrev pub inserts : Result
+  inserts = given (behindCheck c (insertion c p)) c []
 
-  pub deletion-sound : Sound c → Sound (deletion c p .cells)
-  deletion-sound s = does-either Sound (deletion-view c p) s (λ e. deleted-sound (e .sound) p (e .member))
+  abbrev pub deletes : Result
+  deletes = given (behindCheck c (deletion c p)) c []
+
+  pub insert-view : Decided (behindCheck c (insertion c p) .lines) c [] (insertion c p .made) inserts
+  unfolding insertion plainInsert
+  insert-view = decided _ c [] _ (omega arith, (omega arith, (omega arith, (omega arith, tt))))
+
+  pub delete-view : Decided (behindCheck c (deletion c p) .lines) c [] (deletion c p .made) deletes
+  unfolding deletion plainDelete
+  delete-view = decided _ c [] _ (omega arith, (omega arith, (omega arith, (omega arith, tt))))
+
+  -- where no line holds
+  pub insert-enters : NoLine (behindCheck c (insertion c p) .lines) → Enters c p
+  unfolding insertion plainInsert
+  insert-enters n =
+      let s = test-sound c (not-false _ (n .1 .0)) in
+      record { sound = s; new = new-of s (p .x) (n .1 .1 .0); room = eqb-false (freeOf c) 0 (sym (full-is s) ∙ n .1 .1 .1 .0) }
+
+  pub delete-exits : NoLine (behindCheck c (deletion c p) .lines) → Exits c p
+  unfolding deletion plainDelete
+  delete-exits n =
+      let s = test-sound c (not-false _ (n .1 .0)) in
+      let t : hasX (p .x) (stored c) ≡ true = not-false _ (n .1 .1 .0) in
+      let f : not (has p (stored c)) ≡ false = rw t at (n .1 .1 .1 .0) in
+      record { sound = s; member = has-mem s p (not-false _ f) }
+
+  -- on a sound pool, what no line refuses is accepted
+  pub insert-made : Enters c p → inserts ≡ insertion c p .made
+  unfolding insertion plainInsert
+  insert-made e =
+      let s = e .sound in
+      let n = no-line s in
+      none-holds c [] _ _ (n .0, (n .1 .0, (of-new s (p .x) (e .new), (full-is s ∙ ne-eqb (freeOf c) 0 (e .room), tt))))
+
+  pub delete-made : Exits c p → deletes ≡ deletion c p .made
+  unfolding deletion plainDelete
+  delete-made e =
+      let s = e .sound in
+      let n = no-line s in
+      none-holds c [] _ _ (
+        n .0,
+        (
+          n .1 .0,
+          (
+            ap not (mem-hasX s p (e .member)),
+            (and-false (hasX (p .x) (stored c)) (not (has p (stored c))) (ap not (mem-has s p (e .member))), tt),
+          ),
+        ),
+      )
+
+  -- law: the pool is sound again
+  pub insert-sound : p .x < 4294967296 → Sound c → Sound (inserts .cells)
+  unfolding insertion
+  insert-sound b s = given-either Sound insert-view s (λ n. let e = insert-enters n in inserted-sound (e .sound) p (e .new) b (e .room))
+
+  pub delete-sound : Sound c → Sound (deletes .cells)
+  unfolding deletion
+  delete-sound s = given-either Sound delete-view s (λ n. let e = delete-exits n in deleted-sound (e .sound) p (e .member))
+
+  -- what an accepted change may rely on, and leaves
+  pub insert-accepted : accepted inserts ≡ true → Enters c p × (inserts ≡ insertion c p .made)
+  insert-accepted t = let m = accepted-made insert-view t in (insert-enters (m .0), m .1)
+
+  pub delete-accepted : accepted deletes ≡ true → Exits c p × (deletes ≡ deletion c p .made)
+  delete-accepted t = let m = accepted-made delete-view t in (delete-exits (m .0), m .1)
+
+  -- law: a refused one leaves every cell
+  pub insert-refused : accepted inserts ≡ false → inserts .cells ≡ c
+  unfolding five numbersOf insertion plainInsert
+  insert-refused f = refused-same insert-view refl f
+
+  pub delete-refused : accepted deletes ≡ false → deletes .cells ≡ c
+  unfolding five numbersOf deletion plainDelete
+  delete-refused f = refused-same delete-view refl f
 
   -- law: an accepted pair is stored next, with those that were
-  pub insertion-stored : p .x < 4294967296 → accepted (insertion c p) ≡ true → (q : Pair) → List·Memᴰ q (stored (insertion c p .cells)) ↔ ((q ≡ p) ⊎ List·Memᴰ q (stored c))
-  insertion-stored b t q =
-      let m = accepted-made (insertion-view c p) t in
+  pub insert-stored : p .x < 4294967296 → accepted inserts ≡ true → (q : Pair) → List·Memᴰ q (stored (inserts .cells)) ↔ ((q ≡ p) ⊎ List·Memᴰ q (stored c))
+  unfolding insertion
+  insert-stored b t q =
+      let m = insert-accepted t in
       let e = m .0 in
       rw (m .1) (inserted-stored (e .sound) p (e .new) b (e .room) q)
 
   -- law: a deleted pair is not, and all others are
-  pub deletion-stored : accepted (deletion c p) ≡ true → (q : Pair) → List·Memᴰ q (stored c) ↔ ((q ≡ p) ⊎ List·Memᴰ q (stored (deletion c p .cells)))
-  deletion-stored t q =
-      let m = accepted-made (deletion-view c p) t in
+  pub delete-stored : accepted deletes ≡ true → (q : Pair) → List·Memᴰ q (stored c) ↔ ((q ≡ p) ⊎ List·Memᴰ q (stored (deletes .cells)))
+  unfolding deletion
+  delete-stored t q =
+      let m = delete-accepted t in
       rw (m .1) (deleted-stored (m .0 .sound) p (m .0 .member) q)
 
-  pub deletion-gone : accepted (deletion c p) ≡ true → (q : Pair) → List·Memᴰ q (stored (deletion c p .cells)) → p .x ≢ q .x
-  deletion-gone t q k =
-      let m = accepted-made (deletion-view c p) t in
+  pub delete-gone : accepted deletes ≡ true → (q : Pair) → List·Memᴰ q (stored (deletes .cells)) → p .x ≢ q .x
+  unfolding deletion
+  delete-gone t q k =
+      let m = delete-accepted t in
       deleted-gone (m .0 .sound) p (m .0 .member) q (rw (m .1) at k)
 
 -- law: the tree depends on the set alone

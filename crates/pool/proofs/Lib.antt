@@ -1,7 +1,4 @@
--- What the promises mean.
-pub mod Views
+-- What the calls mean: the stored set after a change, what a listing shows, and the bounds on visits.
 pub mod Changes
 pub mod Shown
-pub mod Entries
 pub mod Bounds
-pub mod Asked

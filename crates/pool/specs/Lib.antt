@@ -1,4 +1,2 @@
--- The promises of the calls over a pool, and what a listing shows.
-pub mod Changing
-pub mod Asking
+-- What a listing shows, and how many slots it may visit.
 pub mod Showing

@@ -10,16 +10,16 @@ use Rattle.kinds.specs.declared.Outcome.the-variants.{Listed}
 use Rattle.kinds.specs.declared.Pair.{Pair}
 use Rattle.kinds.specs.Answer.{five}
 use Rattle.pools.specs.Cells.{stored}
-use Rattle.kinds.specs.Refusals.{Left}
+use Rattle.kinds.specs.Promise.{Result}
 use Rattle.plain.specs.Plain.{Apart}
 use Rattle.walks.specs.Walks.{roomOf, written}
 
 -- there is a list of exactly the stored pairs that are asked for, each once; as many as there is room for are written, and the answer says whether there are more
-pub record Shows (c out : List ℕ) (Asked : Pair → Type 0) (w : Left) : Type 0 where
+pub record Shows (c out : List ℕ) (Asked : Pair → Type 0) (w : Result) : Type 0 where
   pub all : List Pair
   pub exactly : (p : Pair) → List·Memᴰ p all ↔ (List·Memᴰ p (stored c) × Asked p)
   pub once : Apart (map (λ p. p .x) all)
-  pub cells : w .cells ≡ written (take (roomOf out) all) out
+  pub lent : w .lent ≡ written (take (roomOf out) all) out
   pub outcome : w .answer .outcome ≡ Listed (length (take (roomOf out) all)) (ltb (roomOf out) (length all))
 
 -- the bound on a listing: at most 127 visits, and two more for each pair listed

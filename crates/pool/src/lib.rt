@@ -1,8 +1,7 @@
-// The calls over a pool. Each accepts any lent cells and any numbers: the check, the refusals in their order, then one walk.
+// The calls over a pool. Each accepts any lent cells and any numbers: the check, and then the call on the checked pool.
 use kinds::Answer;
-ghost use mathlib.Core.Path.{_≡_};
-ghost use Rattle.kinds.specs.Refusals.{Leaves};
-ghost use Rattle.sound.specs.Promises.{setUp, checked};
+ghost use Rattle.kinds.specs.Promise.{Changes, Answers};
+ghost use Rattle.sound.specs.Promises.{setUp, check};
 
 mod ask;
 mod change;
@@ -19,14 +18,14 @@ pub use list::listing;
 
 // Lays out a pool with nothing stored, whatever its cells held.
 pub fn set_up(pool: &mut [u32]) -> Answer
-    ensures { λ r. ⌜ Leaves (setUp (now (pool .entry))) (now (pool .exit)) r ⌝ }
+    ensures { λ r. ⌜ Changes (setUp (now (pool .entry))) (now (pool .entry)) r (now (pool .exit)) ⌝ }
 {
     sound::set_up(pool)
 }
 
 // Says whether a pool is sound, or gives the code of what is wrong.
 pub fn check(pool: &[u32]) -> Answer
-    ensures { λ r. ⌜ r ≡ checked (now (pool .entry)) ⌝ }
+    ensures { λ r. ⌜ Answers (check (now (pool .entry))) (now (pool .entry)) r ⌝ }
 {
     sound::check(pool)
 }

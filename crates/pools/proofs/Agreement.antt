@@ -7,12 +7,12 @@ use native.Mathlib.Omega.{arith}
 use lib.ListN.{length, getD, set, length-set}
 use lib.Seq.{getD-set-same, getD-set-other, set-getD, ext-getD}
 use Rattle.kinds.specs.declared.Pair.{Pair}
-use Rattle.trees.specs.Tree.{Tree, none, fork}
+use Rattle.trees.specs.Tree.{Tree, none, fork, Stands, at-top, at-left, at-right}
 use Rattle.pools.specs.Cells.{perSlot, slotsOf, Fits, pairAt, leftAt, rightAt, putHeader, putPair, putLinks, putFree, freeMark}
 use Rattle.pools.specs.Sound.{Pool, Slot, Leads, nowhere, slot, Free, Chain, ends, next}
 use Rattle.pools.specs.Laid.{top}
 use Rattle.kinds.proofs.Order.{pair-ext}
-use Rattle.trees.proofs.Standing.{Stands, at-top, at-left, at-right, stands}
+use Rattle.trees.proofs.Standing.{stands}
 
 -- two pools agree on slot s; on slot 0: the mark, the root slot, the first free slot and the number of pairs
 pub record Agree (c d : List ℕ) (s : ℕ) : Type 0 where

@@ -7,7 +7,7 @@ use native.Mathlib.Omega.{arith}
 use lib.ListN.{length}
 use Rattle.kinds.specs.declared.Pair.{Pair}
 use Rattle.kinds.specs.Stripe.{rootStripe}
-use Rattle.trees.specs.Tree.{Tree, size, Well, itself}
+use Rattle.trees.specs.Tree.{Tree, size, Well, itself, Stands, Distinct}
 use Rattle.pools.specs.Cells.{slotsOf, rootOf, freeOf, countOf, putHeader}
 use Rattle.pools.specs.Sound.{Pool, Slot, Leads, Chain, Sound}
 use Rattle.pools.specs.Laid.{top, lay}
@@ -15,7 +15,7 @@ use Rattle.kinds.proofs.Order.{pair-ext}
 use Rattle.trees.proofs.Clauses.{stripes-of, ordered-of}
 use Rattle.trees.proofs.Members.{well-apart}
 use Rattle.trees.proofs.Levels.{root-levels}
-use Rattle.trees.proofs.Standing.{Stands, stands, Distinct}
+use Rattle.trees.proofs.Standing.{stands}
 use Rattle.pools.proofs.Agreement.{Agree, agree-back, agree-then, Holds, holds-agree, agree-holds, same-pool, same-slot, leads-top, agree-outside, header-wrote, header-read, header-fits}
 use Rattle.pools.proofs.Laying.{lay-length, lay-rest, lay-leads}
 

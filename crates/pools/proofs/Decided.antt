@@ -11,14 +11,14 @@ use borrow.Author.Tests.{eq-eqb, ne-eqb, le-leb, lt-ltb, eqb-true, eqb-false, le
 use Rattle.kinds.specs.declared.Pair.{Pair}
 use Rattle.kinds.specs.Pairs.{beats}
 use Rattle.kinds.specs.Stripe.{Stripe, In, holds, rootStripe, middle, leftPart, rightPart, lowLevels, allLevels}
-use Rattle.trees.specs.Tree.{Tree, fork, size, Tops, free, over, Within, Well, itself}
+use Rattle.trees.specs.Tree.{Tree, fork, size, Tops, free, over, Within, Well, itself, New}
 use Rattle.trees.specs.Changes.{met}
-use Rattle.pools.specs.Cells.{perSlot, slotsOf, markOf, rootOf, freeOf, countOf, pairAt, leftAt, rightAt, freeMark, isFree, treeAt}
+use Rattle.pools.specs.Cells.{mostSlots, perSlot, slotsOf, markOf, rootOf, freeOf, countOf, pairAt, leftAt, rightAt, freeMark, isFree, treeAt}
 use Rattle.pools.specs.Sound.{Pool, Slot, Leads, nowhere, slot, Free, Chain, ends, next, Sound}
 use Rattle.pools.specs.Test.{isPool, slotFine, alone, fine, below, rootFine, freeFine, chainFine, restFine, isSound}
 use Rattle.kinds.proofs.Tests.{on, both, and-true, all-three, all-four}
 use Rattle.kinds.proofs.Order.{beats-true, true-beats}
-use Rattle.trees.proofs.Trees.{all-map, well-in, New, under-new, tops-of}
+use Rattle.trees.proofs.Trees.{all-map, well-in, under-new, tops-of}
 use Rattle.trees.proofs.Clauses.{well-fork, well-of, stripes-of, ordered-of}
 use Rattle.trees.proofs.Members.{well-apart}
 use Rattle.trees.proofs.Halving.{unmet-new, new-unmet}
@@ -27,12 +27,12 @@ use Rattle.pools.proofs.Leads.{tree-none, tree-fork, tree-within, leads
 pub pool-true : (c : List ℕ) → isPool c ≡ true → Pool c
 unfolding isPool
 pool-true c h =
-    let a = all-three (eqb (length c) (perSlot * (slotsOf c + 1))) (leb 1 (slotsOf c)) (leb (slotsOf c) 4095) h in
+    let a = all-three (eqb (length c) (perSlot * (slotsOf c + 1))) (leb 1 (slotsOf c)) (leb (slotsOf c) mostSlots) h in
     record { whole = eqb-true _ _ (a .0); some = leb-true _ _ (a .1); most = leb-true _ _ (a .2) }
 
 pub true-pool : (c : List ℕ) → Pool c → isPool c ≡ true
 unfolding isPool
-true-pool c p = rw (eq-eqb (length c) (perSlot * (slotsOf c + 1)) (p .whole), le-leb 1 (slotsOf c) (p .some), le-leb (slotsOf c) 4095 (p .most))
+true-pool c p = rw (eq-eqb (length c) (perSlot * (slotsOf c + 1)) (p .whole), le-leb 1 (slotsOf c) (p .some), le-leb (slotsOf c) mostSlots (p .most))
 
 holds-true : (s : Stripe) (x : ℕ) → holds s x ≡ true → In s x
 unfolding holds

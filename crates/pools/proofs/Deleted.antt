@@ -7,18 +7,18 @@ use native.Mathlib.Omega.{arith}
 use lib.ListN.{length}
 use Rattle.kinds.specs.declared.Pair.{Pair}
 use Rattle.kinds.specs.Stripe.{rootStripe}
-use Rattle.trees.specs.Tree.{size, Mem, Well, itself}
+use Rattle.trees.specs.Tree.{size, Mem, Well, itself, New, Stands}
 use Rattle.trees.specs.Changes.{Cut, takeOut}
 use Rattle.pools.specs.Cells.{freeOf, countOf, freeMark, putHeader, putFree, stored}
 use Rattle.pools.specs.Sound.{Slot, Chain, next, Sound}
 use Rattle.pools.specs.Laid.{top, lay, deleted}
-use Rattle.trees.proofs.Trees.{all-at, New}
+use Rattle.trees.proofs.Trees.{all-at}
 use Rattle.trees.proofs.GoDown.{Down}
 use Rattle.trees.proofs.TakeOut.{taken-view, takeOut-well, takeOut-mem, takeOut-new}
 use Rattle.trees.proofs.Back.{taken-down}
 use Rattle.pools.proofs.Leads.{leads-one}
 use Rattle.pools.proofs.Decided.{sound-well, sound-tree}
-use Rattle.trees.proofs.Standing.{Stands, down-stands, stands-new, stands-down, distinct-down, new-out, down-size}
+use Rattle.trees.proofs.Standing.{down-stands, stands-new, stands-down, distinct-down, new-out, down-size}
 use Rattle.pools.proofs.Agreement.{Agree, agree-then, same-slot, leads-frame, chain-frame, Holds, holds-agree, agree-holds, holds-free, free-wrote, free-read, slot-fits}
 use Rattle.pools.proofs.Slots.{sound-distinct, tree-slot, free-slot, not-both}
 use Rattle.pools.proofs.Stored.{stored-mem}

@@ -6,7 +6,7 @@ use native.Mathlib.Omega.{arith}
 use lib.ListN.{length, getD, set, length-append}
 use lib.Seq.{getD-append-add}
 use Rattle.trees.specs.Tree.{none}
-use Rattle.pools.specs.Cells.{perSlot, slotsOf, rightAt, freeMark, storedFrom, stored, freeSlots, fresh, putFree, putHeader}
+use Rattle.pools.specs.Cells.{mostSlots, perSlot, slotsOf, rightAt, freeMark, storedFrom, stored, freeSlots, fresh, putFree, putHeader}
 use Rattle.pools.specs.Sound.{nowhere, Free, Chain, ends, next, Sound}
 use Rattle.pools.proofs.Decided.{true-free}
 
@@ -96,7 +96,7 @@ pub fresh-slots : (n : ℕ) → slotsOf (fresh n) ≡ n
 fresh-slots n = let h = fresh-length n in omega arith
 
 -- law: set up leaves a sound pool
-pub fresh-sound : (n : ℕ) → 1 ≤ n → n ≤ 4095 → Sound (fresh n)
+pub fresh-sound : (n : ℕ) → 1 ≤ n → n ≤ mostSlots → Sound (fresh n)
 unfolding fresh
 fresh-sound zero o m = absurd (omega arith)
 fresh-sound (suc k) o m =

@@ -7,16 +7,15 @@ use native.Mathlib.Omega.{arith}
 use lib.ListN.{length}
 use Rattle.kinds.specs.declared.Pair.{Pair}
 use Rattle.kinds.specs.Stripe.{In, rootStripe}
-use Rattle.trees.specs.Tree.{Tree, Well, itself}
+use Rattle.trees.specs.Tree.{Tree, Well, itself, New, Stands}
 use Rattle.trees.specs.Changes.{goDown}
 use Rattle.pools.specs.Cells.{freeOf, countOf, rightAt, putHeader, stored}
 use Rattle.pools.specs.Sound.{Slot, Free, Chain, ends, next, Sound}
 use Rattle.pools.specs.Laid.{top, lay, inserted}
-use Rattle.trees.proofs.Trees.{New}
 use Rattle.trees.proofs.GoDown.{Down, down-view, goDown-well, goDown-mem}
 use Rattle.pools.proofs.Leads.{leads-one}
 use Rattle.pools.proofs.Decided.{sound-well, sound-tree}
-use Rattle.trees.proofs.Standing.{Stands, down-stands, down-distinct, down-size}
+use Rattle.trees.proofs.Standing.{down-stands, down-distinct, down-size}
 use Rattle.pools.proofs.Agreement.{Agree, chain-frame}
 use Rattle.plain.proofs.Apart.{not-differs}
 use Rattle.pools.proofs.Slots.{sound-distinct, tree-slot, free-slot, not-both, chain-apart}

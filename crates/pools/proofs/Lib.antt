@@ -11,3 +11,4 @@ pub mod Changed
 pub mod Inserted
 pub mod Deleted
 pub mod TakenBack
+pub mod InTree

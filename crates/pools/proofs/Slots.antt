@@ -7,13 +7,12 @@ use native.Mathlib.Omega.{arith}
 use lib.ListN.{length, length-append}
 use Rattle.kinds.specs.declared.Pair.{Pair}
 use Rattle.kinds.specs.Stripe.{Stripe, rootStripe, leftPart, rightPart}
-use Rattle.trees.specs.Tree.{Tree, none, fork, slots, size, Mem, here, in-left, in-right, Well, itself}
+use Rattle.trees.specs.Tree.{Tree, none, fork, slots, size, Mem, here, in-left, in-right, Well, itself, Stands, at-top, at-left, at-right, Distinct}
 use Rattle.plain.specs.Plain.{Apart}
 use Rattle.pools.specs.Cells.{slotsOf, pairAt, leftAt}
 use Rattle.pools.specs.Sound.{Pool, Slot, Leads, nowhere, slot, Free, Chain, ends, next, Sound}
 use Rattle.trees.proofs.Trees.{all-at, well-in}
 use Rattle.pools.proofs.Decided.{sound-well}
-use Rattle.trees.proofs.Standing.{Stands, at-top, at-left, at-right, Distinct}
 use Rattle.pools.proofs.Agreement.{leads-reads, leads-slot}
 use Rattle.plain.proofs.Apart.{differs-not, apart-join}
 use Rattle.pools.proofs.Pigeonhole.{From-one, all-there}

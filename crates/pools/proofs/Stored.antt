@@ -10,7 +10,7 @@ use lib.ListN.{length, length-append}
 use borrow.Author.Tests.{eqb-true, eqb-false}
 use Rattle.kinds.specs.declared.Pair.{Pair}
 use Rattle.plain.specs.Plain.{those, Differs, Apart}
-use Rattle.trees.specs.Tree.{Tree, none, fork, members, slots, size, Mem, here, in-left, in-right, xs, itself}
+use Rattle.trees.specs.Tree.{Tree, none, fork, members, slots, size, Mem, here, in-left, in-right, xs, itself, Stands, at-top, at-left, at-right}
 use Rattle.pools.specs.Cells.{slotsOf, countOf, pairAt, isFree, storedFrom, stored}
 use Rattle.pools.specs.Sound.{Slot, Leads, nowhere, slot, Sound}
 use Rattle.kinds.proofs.Tests.{on, clash}
@@ -18,7 +18,6 @@ use Rattle.trees.proofs.Members.{members-mem}
 use Rattle.plain.proofs.Apart.{apart-same}
 use Rattle.pools.proofs.Decided.{free-true, true-free}
 use Rattle.plain.proofs.Counts.{those-count}
-use Rattle.trees.proofs.Standing.{Stands, at-top, at-left, at-right}
 use Rattle.pools.proofs.Agreement.{leads-reads}
 use Rattle.pools.proofs.Slots.{stands-list, stands-mem, stands-used, chain-free, tree-slot, slot-either}
 

@@ -6,11 +6,11 @@ use mathlib.Core.List.{List}
 use native.Mathlib.Omega.{arith}
 use Rattle.kinds.specs.declared.Pair.{Pair}
 use Rattle.kinds.specs.Stripe.{rootStripe}
-use Rattle.trees.specs.Tree.{Mem, itself}
+use Rattle.trees.specs.Tree.{Mem, itself, New}
 use Rattle.pools.specs.Cells.{freeOf, countOf, rightAt, freeMark}
 use Rattle.pools.specs.Sound.{Sound}
 use Rattle.pools.specs.Laid.{inserted, deleted}
-use Rattle.trees.proofs.Trees.{all-at, well-in, New}
+use Rattle.trees.proofs.Trees.{all-at, well-in}
 use Rattle.trees.proofs.GoDown.{goDown-mem}
 use Rattle.trees.proofs.Back.{put-back, taken-back}
 use Rattle.pools.proofs.Decided.{sound-well}

@@ -1,23 +1,33 @@
 -- The cells of a pool, by name, and the plain list of what they store.
 use Prim.Native.Nat.{ℕ, zero, suc, _+_, _*_, _-_, _/_, _≤_}
 use mathlib.Core.Bool.{Bool, cond, _&&_}
-use mathlib.Core.List.{List, [], _∷_}
+use mathlib.Core.List.{List, [], _∷_, _++_}
 use lib.Dec.{eqb}
 use lib.ListN.{length, getD, set}
 use Rattle.kinds.specs.declared.Pair.{Pair}
+use Rattle.kinds.specs.Stripe.{allLevels}
+use Rattle.plain.specs.Books.{Book}
 use Rattle.trees.specs.Tree.{Tree, none, fork}
 
 -- how many cells a slot has, and the header
 abbrev pub perSlot : ℕ
 perSlot = 4
 
+-- the most slots that a pool has
+abbrev pub mostSlots : ℕ
+mostSlots = 4095
+
+-- the mark of a pool
+abbrev pub poolMark : ℕ
+poolMark = 1
+
 -- how many slots a pool of these cells has: the header's cells are none of theirs
 abbrev pub slotsOf : List ℕ → ℕ
 slotsOf c = length c / perSlot - 1
 
--- the cells with the header written anew: the mark 1, the root slot, the first free slot, the number of pairs
+-- the cells with the header written anew: the mark, the root slot, the first free slot, the number of pairs
 abbrev pub putHeader : List ℕ → ℕ → ℕ → ℕ → List ℕ
-putHeader c root free count = set (set (set (set c 0 1) 1 root) 2 free) 3 count
+putHeader c root free count = set (set (set (set c 0 poolMark) 1 root) 2 free) 3 count
 
 -- all cells of slot s are there
 abbrev pub Fits : List ℕ → ℕ → Type 0
@@ -82,6 +92,10 @@ storedFrom c (suc k) s = let rest = storedFrom c k (suc s) in cond (isFree c s) 
 abbrev pub stored : List ℕ → List Pair
 stored c = storedFrom c (slotsOf c) 1
 
+-- the plain list of a pool, with room for as many pairs as it has slots
+abbrev pub bookOf : List ℕ → Book
+bookOf c = record { pairs = stored c; room = slotsOf c }
+
 -- the tree that a link leads to, read so many levels down
 unfoldable pub treeAt : List ℕ → ℕ → ℕ → Tree Pair
 treeAt c zero s = none
@@ -89,12 +103,20 @@ treeAt c (suc k) s =
     let t : Tree Pair = fork s (pairAt c s) (treeAt c k (leftAt c s)) (treeAt c k (rightAt c s)) in
     cond (eqb s 0) none t
 
+-- the tree that a pool holds
+abbrev pub treeOf : List ℕ → Tree Pair
+treeOf c = treeAt c allLevels (rootOf c)
+
+-- the cells of a free slot: 0, 0, 4294967295, next
+abbrev pub freeForm : (next : ℕ) → List ℕ
+freeForm next = 0 ∷ 0 ∷ freeMark ∷ next ∷ []
+
 -- so many free slots from slot s on: each points to the next, the last to 0
 unfoldable pub freeSlots : ℕ → ℕ → List ℕ
 freeSlots s zero = []
-freeSlots s (suc zero) = 0 ∷ 0 ∷ freeMark ∷ 0 ∷ []
-freeSlots s (suc (suc k)) = 0 ∷ 0 ∷ freeMark ∷ suc s ∷ freeSlots (suc s) (suc k)
+freeSlots s (suc zero) = freeForm 0
+freeSlots s (suc (suc k)) = freeForm (suc s) ++ freeSlots (suc s) (suc k)
 
 -- a fresh pool of n slots: all are chained as free in ascending order
 unfoldable pub fresh : ℕ → List ℕ
-fresh n = 1 ∷ 0 ∷ 1 ∷ 0 ∷ freeSlots 1 n
+fresh n = poolMark ∷ 0 ∷ 1 ∷ 0 ∷ freeSlots 1 n

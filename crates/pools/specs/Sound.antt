@@ -7,13 +7,13 @@ use Rattle.kinds.specs.declared.Pair.{Pair}
 use Rattle.kinds.specs.Stripe.{rootStripe, allLevels}
 use Rattle.trees.specs.Tree.{Tree, none, fork, itself, size, xs, InStripes, Ordered, Within}
 use Rattle.plain.specs.Plain.{Apart}
-use Rattle.pools.specs.Cells.{perSlot, slotsOf, markOf, rootOf, freeOf, countOf, pairAt, leftAt, rightAt, freeMark}
+use Rattle.pools.specs.Cells.{perSlot, mostSlots, poolMark, slotsOf, markOf, rootOf, freeOf, countOf, pairAt, leftAt, rightAt, freeMark}
 
 -- a pool is 4(n + 1) cells, n from 1 to 4,095
 pub record Pool (c : List ℕ) : Type 0 where
   pub whole : length c ≡ perSlot * (slotsOf c + 1)
   pub some : 1 ≤ slotsOf c
-  pub most : slotsOf c ≤ 4095
+  pub most : slotsOf c ≤ mostSlots
 
 -- s is a slot of the pool, 1 to n
 pub record Slot (c : List ℕ) (s : ℕ) : Type 0 where
@@ -39,7 +39,7 @@ pub data Chain (c : List ℕ) : ℕ → List ℕ → Type 0 where
 -- a sound pool, with a field for each clause of 01; `tree` is the tree that its links show, and `free` are the slots of its free chain
 pub record Sound (c : List ℕ) : Type 0 where
   pub pool : Pool c
-  pub mark : markOf c ≡ 1
+  pub mark : markOf c ≡ poolMark
   pub tree : Tree Pair
   -- links are 0 to n
   pub links : Leads c (rootOf c) tree

@@ -6,14 +6,14 @@ use lib.Dec.{ltb, leb, eqb}
 use lib.ListN.{length}
 use Rattle.kinds.specs.declared.Pair.{Pair}
 use Rattle.kinds.specs.Pairs.{beats}
-use Rattle.kinds.specs.Stripe.{Stripe, rootStripe, holds, middle, leftPart, rightPart, lowLevels, allLevels}
+use Rattle.kinds.specs.Stripe.{Stripe, rootStripe, holds, middle, leftPart, rightPart, lowLevels}
 use Rattle.trees.specs.Tree.{Tree, size, itself}
 use Rattle.trees.specs.Changes.{met}
-use Rattle.pools.specs.Cells.{perSlot, slotsOf, markOf, rootOf, freeOf, countOf, pairAt, leftAt, rightAt, isFree, treeAt}
+use Rattle.pools.specs.Cells.{treeOf, perSlot, mostSlots, poolMark, slotsOf, markOf, rootOf, freeOf, countOf, pairAt, leftAt, rightAt, isFree, treeAt}
 
 -- the length is that of a pool
 unfoldable pub isPool : List ℕ → Bool
-isPool c = eqb (length c) (perSlot * (slotsOf c + 1)) && leb 1 (slotsOf c) && leb (slotsOf c) 4095
+isPool c = eqb (length c) (perSlot * (slotsOf c + 1)) && leb 1 (slotsOf c) && leb (slotsOf c) mostSlots
 
 -- s is a slot of the pool, and its x lies in its stripe
 unfoldable pub slotFine : List ℕ → ℕ → Stripe → Bool
@@ -66,9 +66,9 @@ chainFine c (suc k) s =
 -- the tree's slots and the free ones are all slots
 unfoldable pub restFine : List ℕ → Bool
 restFine c =
-    eqb (size (treeAt c allLevels (rootOf c))) (countOf c) && leb (countOf c) (slotsOf c) && chainFine c (slotsOf c - countOf c) (freeOf c)
+    eqb (size (treeOf c)) (countOf c) && leb (countOf c) (slotsOf c) && chainFine c (slotsOf c - countOf c) (freeOf c)
 
 -- the test of a pool
 unfoldable pub isSound : List ℕ → Bool
 isSound c =
-    isPool c && eqb (markOf c) 1 && rootFine c && restFine c
+    isPool c && eqb (markOf c) poolMark && rootFine c && restFine c

@@ -7,7 +7,7 @@ use Rattle.kinds.specs.declared.Finding.{Finding}
 use Rattle.kinds.specs.declared.Finding.the-variants.{Nothing}
 use Rattle.kinds.specs.declared.Pair.{Pair}
 use Rattle.kinds.specs.declared.Walked.{Walked}
-use Rattle.pools.specs.Cells.{Fits, rootOf, treeAt}
+use Rattle.pools.specs.Cells.{mostSlots, Fits, rootOf, treeAt}
 use Rattle.pools.specs.Sound.{Sound}
 use Rattle.kinds.specs.Stripe.{allLevels, Stripe, rootStripe}
 use Rattle.trees.specs.Tree.{Tree, none, size}
@@ -23,7 +23,7 @@ module _ (c : List ℕ) (o : Sound c) where
   root-tree : treeAt c allLevels (rootOf c) ≡ o .tree
   root-tree = leads-tree c allLevels (o .links) (o .levels)
 
-  few : size (o .tree) ≤ 4095
+  few : size (o .tree) ≤ mostSlots
   few = let n = o .count in let r = o .rest in let m = o .pool .most in omega arith
 
   -- law: what a walk relies on, at the root, before its first visit

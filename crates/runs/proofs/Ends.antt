@@ -1,190 +1,233 @@
--- Each call over a pool, from a sound one and a plain list with the same pairs: it ends alike over both, and leaves them the same.
-use Prim.Native.Nat.{ℕ, _≤_, _<_}
+-- How each call fits its fellow over a plain list with the same pairs.
+use Prim.Native.Nat.{ℕ, _<_, _*_, _+_}
 use mathlib.Core.Path.{_≡_, refl, sym, ap, _∙_}
-use mathlib.Core.Logic.{_≢_, inl, inr, ⊎-elim}
-use mathlib.Core.Bool.{true, false, not}
-use mathlib.Core.List.{List, [], _∷_, map, List·Memᴰ·head, List·Memᴰ·tail, List·Memᴰ·cases-cons}
-use native.Mathlib.Omega.{arith}
-use lib.Dec.{ltb, leb, eqb}
-use lib.ListN.{length}
-use borrow.Author.Tests.{ne-eqb, le-leb, lt-leb, eqb-true, eqb-false, not-true}
+use mathlib.Core.Logic.{inl, inr, ⊎-elim}
+use mathlib.Core.Bool.{true, false, not, _&&_}
+use mathlib.Core.List.{List, [], _∷_, _++_, List·Memᴰ·head, List·Memᴰ·tail, List·Memᴰ·cases-cons}
+use lib.Dec.{leb}
+use lib.ListN.{length, drop}
+use borrow.Author.Tests.{ne-eqb, eqb-false, not-true, not-false}
 use Rattle.kinds.specs.declared.Limits.{Limits}
-use Rattle.kinds.specs.declared.Outcome.{Outcome}
 use Rattle.kinds.specs.declared.Pair.{Pair}
-use Rattle.pools.specs.Cells.{slotsOf, freeOf, stored}
-use Rattle.pools.specs.Laid.{inserted, deleted}
-use Rattle.plain.specs.Plain.{hasX, has, Alike, Differs, Apart}
-use Rattle.kinds.specs.Refusals.{leftBy}
-use Rattle.pools.specs.Sound.{Sound, Chain, ends, next}
-use Rattle.kinds.proofs.Tests.{on, clash}
+use Rattle.kinds.specs.Answer.{outcomeOf}
+use Rattle.kinds.specs.Promise.{Line}
+use Rattle.kinds.specs.Stripe.{rootStripe}
+use Rattle.plain.specs.Books.{Book, lists, without, plainInsert, plainDelete, plainSmallestX, plainLargestX, plainSmallestY, plainListing}
+use Rattle.plain.specs.Plain.{matches, those, hasX, has, smallestXOf, largestXOf, smallestYOf}
+use Rattle.plain.specs.Strips.{stripPair, coversLimits, lastLimits, meetsLimits, containsLimits, plainOpen, plainClose, plainFirst, plainLast, plainEarliest, plainCovers, plainMeets, plainContains}
+use Rattle.plain.proofs.Alike.{hasX-alike, has-alike, length-alike, differs-of}
 use Rattle.plain.proofs.Counts.{those-count}
-use Rattle.plain.proofs.Those.{those-all, those-mem, those-apart}
-use Rattle.pools.proofs.Decided.{true-pool, sound-test}
-use Rattle.pools.proofs.Fresh.{fresh-sound, fresh-stored, fresh-slots}
-use Rattle.plain.proofs.Having.{hasX-true, true-hasX, has-true, true-has}
-use Rattle.pools.proofs.Inserted.{inserted-sound, inserted-length, inserted-stored}
+use Rattle.plain.proofs.Scan.{smallestXOf-alike, largestXOf-alike, smallestYOf-alike}
+use Rattle.plain.proofs.Those.{those-mem, those-apart}
+use Rattle.trees.specs.Tree.{members}
+use Rattle.walks.specs.Walks.{roomOf, written}
+use Rattle.walks.proofs.Lists.{listing-pairs}
+use Rattle.pools.specs.Cells.{slotsOf, freeOf, stored, bookOf, treeOf}
+use Rattle.pools.specs.Laid.{inserted, deleted}
+use Rattle.pools.specs.Sound.{Sound}
 use Rattle.pools.proofs.Deleted.{deleted-sound, deleted-length, deleted-stored, deleted-gone}
-use Rattle.pools.proofs.Stored.{stored-apart, stored-count}
-use Rattle.sound.proofs.Meaning.{check-sound, set-up-done}
-use Rattle.pool.specs.Changing.{insertion, deletion}
-use Rattle.pool.proofs.Views.{new-of, has-mem}
-use Rattle.book.specs.Book.{bytesFor}
-use Rattle.book.specs.Promises.{saved}
-use Rattle.runs.specs.Calls.{set-up, check, insert, delete, smallest-x, largest-x, smallest-y, list, save, promised}
-use Rattle.runs.specs.Playing.{play, Book, plainBy, without, asked, plainly, Same, Ends}
-use Rattle.runs.proofs.Plain.{forwards, smallestX-plain, largestX-plain, smallestY-plain, listing-plain}
+use Rattle.pools.proofs.InTree.{tree-well, members-stored, members-apart, new-of, has-mem, full-is}
+use Rattle.pools.proofs.Inserted.{inserted-sound, inserted-length, inserted-stored}
+use Rattle.pools.proofs.Stored.{stored-apart}
+use Rattle.pages.specs.Book.{byX, versionOne, bookBytes, plainSave}
+use Rattle.pages.proofs.Ascending.{byX-mem, byX-rises, rises-one}
+use Rattle.answers.specs.Promises.{walkListed, insertion, deletion, opening, closing, smallestXAsked, largestXAsked, smallestYAsked, firstToEnd, lastToEnd, earliestStart, listingAsked, listCovers, listMeets, listContains, saved}
+use Rattle.answers.proofs.Shapes.{strip-small}
+use Rattle.runs.specs.Playing.{Same}
+use Rattle.runs.proofs.Fits.{Fits}
 
--- the tests over two lists with the same pairs
-hasX-alike : (x : ℕ) (ps qs : List Pair) → Alike ps qs → hasX x ps ≡ hasX x qs
-hasX-alike x ps qs h = on (hasX x ps)
-    (λ e. let w = hasX-true x ps e in e ∙ sym (true-hasX (w .pair) x qs (h (w .pair) .0 (w .member)) (w .same)))
-    (λ e. on (hasX x qs)
-    (λ f. let w = hasX-true x qs f in absurd (clash (true-hasX (w .pair) x ps (h (w .pair) .1 (w .member)) (w .same)) e))
-    (λ f. e ∙ sym f))
-
-has-alike : (p : Pair) (ps qs : List Pair) → Alike ps qs → has p ps ≡ has p qs
-has-alike p ps qs h = on (has p ps)
-    (λ e. e ∙ sym (true-has p qs (h p .0 (has-true p ps e))))
-    (λ e. on (has p qs) (λ f. absurd (clash (true-has p ps (h p .1 (has-true p qs f))) e)) (λ f. e ∙ sym f))
-
-length-alike : (ps qs : List Pair) → Apart (map (λ p. p .x) ps) → Apart (map (λ p. p .x) qs) → Alike ps qs → length ps ≡ length qs
-length-alike ps qs a b h = rw (those-all ps, those-all qs) at (those-count (λ q. true) ps qs a b h)
-
--- a list with one pair more
-differs-of : (x : ℕ) (ps : List Pair) → hasX x ps ≡ false → Differs x (map (λ p. p .x) ps)
-unfolding hasX
-differs-of x [] h = tt
-differs-of x (p ∷ ps) h = on (eqb (p .x) x)
-    (λ e. absurd (clash (rw e) h))
-    (λ e. let g : hasX x ps ≡ false = rw e at h in (λ d. eqb-false (p .x) x e (sym d), differs-of x ps g))
-
-module _ (c : List ℕ) (b : Book) (h : Same c b) where
+module _ {c : List ℕ} {b : Book} (h : Same c b) where
   abbrev s : Sound c
   s = h .sound
 
-  -- a full pool is one with as many pairs as slots
-  chain-none : {i : ℕ} {free : List ℕ} → Chain c i free → i ≡ 0 → length free ≡ 0
-  chain-none ends e = refl
-  chain-none (next o f r) e = absurd (omega (arith, o .some))
-
-  chain-some : {i : ℕ} {free : List ℕ} → Chain c i free → i ≢ 0 → 1 ≤ length free
-  chain-some ends n = absurd (n refl)
-  chain-some (next o f r) n = omega arith
-
+  -- the same tests over both
   as-many : length (stored c) ≡ length (b .pairs)
   as-many = length-alike (stored c) (b .pairs) (stored-apart s) (h .apart) (h .alike)
 
-  full-is : eqb (freeOf c) 0 ≡ leb (b .room) (length (b .pairs))
-  full-is =
-      let n = as-many in
-      let k = stored-count s in
-      let r = s .rest in
-      let m = h .room in
-      on (eqb (freeOf c) 0)
-      (λ e. let z = chain-none (s .chain) (eqb-true _ _ e) in e ∙ sym (le-leb (b .room) (length (b .pairs)) (omega arith)))
-      (λ e. let z = chain-some (s .chain) (eqb-false _ _ e) in e ∙ sym (lt-leb (b .room) (length (b .pairs)) (omega arith)))
+  hasX-same : (x : ℕ) → hasX x (stored c) ≡ hasX x (b .pairs)
+  hasX-same x = hasX-alike x (stored c) (b .pairs) (h .alike)
 
-  abbrev stays : Same c (record { pairs = b .pairs; room = b .room })
-  stays = h
+  has-same : (p : Pair) → has p (stored c) ≡ has p (b .pairs)
+  has-same p = has-alike p (stored c) (b .pairs) (h .alike)
 
-  pub insert-ends : (p : Pair) → p .x < 4294967296 → Ends (play c (insert p)) (plainly b (insert p))
-  unfolding play promised plainly plainBy insertion leftBy
-  insert-ends p small =
-      rw (true-pool c (s .pool), sound-test c s, hasX-alike (p .x) (stored c) (b .pairs) (h .alike), full-is)
-      (on (hasX (p .x) (b .pairs))
-      (λ t. rw t (record { outcome = refl; same = stays }))
-      (λ t. rw t (on (leb (b .room) (length (b .pairs)))
-      (λ f. rw f (record { outcome = refl; same = stays }))
-      (λ f. rw f (record { outcome = refl; same = made t f })))))
-    where
-      made : hasX (p .x) (b .pairs) ≡ false → leb (b .room) (length (b .pairs)) ≡ false → Same (inserted c p) (record { pairs = p ∷ b .pairs; room = b .room })
-      made t f =
-          let n = new-of s (p .x) (hasX-alike (p .x) (stored c) (b .pairs) (h .alike) ∙ t) in
-          let r = eqb-false (freeOf c) 0 (full-is ∙ f) in
-          let m = inserted-stored s p n small r in
-          let l = inserted-length s p n small r in
-          let e = h .room in
-          record {
-            sound = inserted-sound s p n small r;
-            alike = λ q. (
-              λ k. ⊎-elim (λ d. List·Memᴰ·head d) (λ k. List·Memᴰ·tail (h .alike q .0 k)) (m q .0 k),
-              λ k. m q .1 (⊎-elim (λ d. inl d) (λ k. inr (h .alike q .1 k)) (List·Memᴰ·cases-cons k)),
-            );
-            apart = (differs-of (p .x) (b .pairs) t, h .apart);
-            room = rw l e;
-          }
+  full-same : leb (slotsOf c) (length (stored c)) ≡ leb (b .room) (length (b .pairs))
+  full-same = rw (as-many, h .room)
 
-  pub delete-ends : (p : Pair) → Ends (play c (delete p)) (plainly b (delete p))
-  unfolding play promised plainly plainBy deletion leftBy
-  delete-ends p =
-      rw (true-pool c (s .pool), sound-test c s, hasX-alike (p .x) (stored c) (b .pairs) (h .alike), has-alike p (stored c) (b .pairs) (h .alike))
-      (on (hasX (p .x) (b .pairs))
-      (λ t. rw t (on (has p (b .pairs))
-      (λ f. rw f (record { outcome = refl; same = made f }))
-      (λ f. rw f (record { outcome = refl; same = stays }))))
-      (λ t. rw t (record { outcome = refl; same = stays })))
-    where
-      made : has p (b .pairs) ≡ true → Same (deleted c (p .x)) (record { pairs = without (p .x) (b .pairs); room = b .room })
-      made f =
-          let k = has-mem s p (has-alike p (stored c) (b .pairs) (h .alike) ∙ f) in
-          let m = deleted-stored s p k in
-          let g = deleted-gone s p k in
-          let l = deleted-length s p k in
-          let e = h .room in
-          record {
-            sound = deleted-sound s p k;
-            alike = λ q. (
-              λ i. those-mem _ q (b .pairs) .1 (h .alike q .0 (m q .1 (inr i)), ap not (ne-eqb (q .x) (p .x) (λ d. g q i (sym d)))),
-              λ i. let r = those-mem _ q (b .pairs) .0 i in
-                  ⊎-elim (λ d. absurd (eqb-false _ _ (not-true _ (r .1)) (ap (λ q. q .x) d))) (λ j. j) (m q .0 (h .alike q .1 (r .0))),
-            );
-            apart = those-apart _ (b .pairs) (h .apart);
-            room = rw l e;
-          }
+  -- a pair that is stored is written to the list
+  insert-same : (p : Pair) → p .x < 4294967296 → hasX (p .x) (b .pairs) ≡ false → leb (b .room) (length (b .pairs)) ≡ false
+      → Same (inserted c p) (record { pairs = p ∷ b .pairs; room = b .room })
+  insert-same p small t f =
+      let n = new-of s (p .x) (hasX-same (p .x) ∙ t) in
+      let r = eqb-false (freeOf c) 0 (sym (full-is s) ∙ (full-same ∙ f)) in
+      let m = inserted-stored s p n small r in
+      let l = inserted-length s p n small r in
+      let e = h .room in
+      record {
+        sound = inserted-sound s p n small r;
+        alike = λ q. (
+          λ k. ⊎-elim (λ d. List·Memᴰ·head d) (λ k. List·Memᴰ·tail (h .alike q .0 k)) (m q .0 k),
+          λ k. m q .1 (⊎-elim (λ d. inl d) (λ k. inr (h .alike q .1 k)) (List·Memᴰ·cases-cons k)),
+        );
+        apart = (differs-of (p .x) (b .pairs) t, h .apart);
+        room = rw l e;
+      }
 
-  pub set-up-ends : Ends (play c set-up) (plainly b set-up)
-  unfolding play promised plainly
-  set-up-ends =
-      let p = s .pool in
-      rw (set-up-done c p) (record {
+  -- a pair that is taken out is struck out
+  delete-same : (p : Pair) → has p (b .pairs) ≡ true → Same (deleted c (p .x)) (record { pairs = without (p .x) (b .pairs); room = b .room })
+  delete-same p f =
+      let k = has-mem s p (has-same p ∙ f) in
+      let m = deleted-stored s p k in
+      let g = deleted-gone s p k in
+      let l = deleted-length s p k in
+      let e = h .room in
+      record {
+        sound = deleted-sound s p k;
+        alike = λ q. (
+          λ i. those-mem _ q (b .pairs) .1 (h .alike q .0 (m q .1 (inr i)), ap not (ne-eqb (q .x) (p .x) (λ d. g q i (sym d)))),
+          λ i. let r = those-mem _ q (b .pairs) .0 i in
+              ⊎-elim (λ d. absurd (eqb-false _ _ (not-true _ (r .1)) (ap (λ q. q .x) d))) (λ j. j) (m q .0 (h .alike q .1 (r .0))),
+        );
+        apart = those-apart _ (b .pairs) (h .apart);
+        room = rw l e;
+      }
+
+  pub insert-fits : (p : Pair) → p .x < 4294967296 → Fits b (insertion c p) (plainInsert p b) []
+  unfolding insertion plainInsert
+  insert-fits p small = record {
+    lines = rw (hasX-same (p .x), full-same);
+    outcome = refl;
+    same = λ n. insert-same p small (n .0) (n .1 .0);
+    wrote = λ n. refl;
+  }
+
+  pub open-fits : (start end number : ℕ) → Fits b (opening c start end number) (plainOpen start end number b) []
+  unfolding opening plainOpen
+  open-fits start end number =
+      let p = stripPair start end number in
+      record {
+        lines = rw (hasX-same (p .x), full-same);
         outcome = refl;
-        same = record {
-          sound = fresh-sound (slotsOf c) (p .some) (p .most);
-          alike = rw (fresh-stored (slotsOf c)) (λ q. (λ m. m, λ m. m));
-          apart = tt;
-          room = fresh-slots (slotsOf c) ∙ h .room;
+        same = λ n. insert-same p (strip-small start end number refl (n .0)) (n .1 .0) (n .1 .1 .0);
+        wrote = λ n. refl;
+      }
+
+  -- x stands in the list, and not with another y
+  there : (p : Pair) → not (hasX (p .x) (b .pairs)) ≡ false → (hasX (p .x) (b .pairs) && not (has p (b .pairs))) ≡ false → has p (b .pairs) ≡ true
+  there p t f =
+      let e : hasX (p .x) (b .pairs) ≡ true = not-false _ t in
+      let g : not (has p (b .pairs)) ≡ false = rw e at f in
+      not-false _ g
+
+  pub delete-fits : (p : Pair) → Fits b (deletion c p) (plainDelete p b) []
+  unfolding deletion plainDelete
+  delete-fits p = record {
+    lines = rw (hasX-same (p .x), has-same p);
+    outcome = refl;
+    same = λ n. delete-same p (there p (n .0) (n .1 .0));
+    wrote = λ n. refl;
+  }
+
+  pub close-fits : (start end number : ℕ) → Fits b (closing c start end number) (plainClose start end number b) []
+  unfolding closing plainClose
+  close-fits start end number =
+      let p = stripPair start end number in
+      record {
+        lines = rw (hasX-same (p .x), has-same p);
+        outcome = refl;
+        same = λ n. delete-same p (there p (n .1 .0) (n .1 .1 .0));
+        wrote = λ n. refl;
+      }
+
+  -- the questions for one pair: a scan does not depend on the list's order
+  smallestX-same : (q : Limits) → outcomeOf (smallestXOf q (stored c)) ≡ outcomeOf (smallestXOf q (b .pairs))
+  smallestX-same q = ap outcomeOf (smallestXOf-alike (stored c) (b .pairs) (stored-apart s) (h .alike) q)
+
+  largestX-same : (q : Limits) → outcomeOf (largestXOf q (stored c)) ≡ outcomeOf (largestXOf q (b .pairs))
+  largestX-same q = ap outcomeOf (largestXOf-alike (stored c) (b .pairs) (stored-apart s) (h .alike) q)
+
+  smallestY-same : (x0 x1 : ℕ) → outcomeOf (smallestYOf x0 x1 (stored c)) ≡ outcomeOf (smallestYOf x0 x1 (b .pairs))
+  smallestY-same x0 x1 = ap outcomeOf (smallestYOf-alike (stored c) (b .pairs) (stored-apart s) (h .alike) x0 x1)
+
+  pub smallestX-fits : (q : Limits) → Fits b (smallestXAsked c q) (plainSmallestX q b) []
+  unfolding smallestXAsked plainSmallestX
+  smallestX-fits q = record { lines = refl; outcome = smallestX-same q; same = λ n. h; wrote = λ n. refl }
+
+  pub largestX-fits : (q : Limits) → Fits b (largestXAsked c q) (plainLargestX q b) []
+  unfolding largestXAsked plainLargestX
+  largestX-fits q = record { lines = refl; outcome = largestX-same q; same = λ n. h; wrote = λ n. refl }
+
+  pub smallestY-fits : (x0 x1 : ℕ) → Fits b (smallestYAsked c x0 x1) (plainSmallestY x0 x1 b) []
+  unfolding smallestYAsked plainSmallestY
+  smallestY-fits x0 x1 = record { lines = refl; outcome = smallestY-same x0 x1; same = λ n. h; wrote = λ n. refl }
+
+  pub first-fits : (u : ℕ) → Fits b (firstToEnd c u) (plainFirst u b) []
+  unfolding firstToEnd plainFirst
+  first-fits u = record { lines = refl; outcome = smallestX-same (coversLimits u); same = λ n. h; wrote = λ n. refl }
+
+  pub last-fits : (u e : ℕ) → Fits b (lastToEnd c u e) (plainLast u e b) []
+  unfolding lastToEnd plainLast
+  last-fits u e = record { lines = refl; outcome = largestX-same (lastLimits u e); same = λ n. h; wrote = λ n. refl }
+
+  pub earliest-fits : (u v : ℕ) → Fits b (earliestStart c u v) (plainEarliest u v b) []
+  unfolding earliestStart plainEarliest
+  earliest-fits u v = record { lines = refl; outcome = smallestY-same (u * 65536) (v * 65536 + 65535); same = λ n. h; wrote = λ n. refl }
+
+  -- the lists: as many matches over both, and the walk's pairs are they
+  matches-same : (q : Limits) → length (those (matches q) (stored c)) ≡ length (those (matches q) (b .pairs))
+  matches-same q = those-count (matches q) (stored c) (b .pairs) (stored-apart s) (h .apart) (h .alike)
+
+  lists-fit : (ls : List Line) (q : Limits) (out : List ℕ)
+      → Fits b (walkListed (lists ls (roomOf out) (those (matches q) (stored c)) (bookOf c)) c q out) (lists ls (roomOf out) (those (matches q) (b .pairs)) b) out
+  lists-fit ls q out =
+      let ps : List Pair = those (matches q) (members (treeOf c)) in
+      record {
+        lines = refl;
+        outcome = rw (matches-same q);
+        same = λ n. h;
+        wrote = λ n. record {
+          all = ps;
+          alike = λ p. (
+            λ m. let k = those-mem (matches q) p (members (treeOf c)) .0 m in
+                those-mem (matches q) p (b .pairs) .1 (h .alike p .0 (members-stored s p .0 (k .0)), k .1),
+            λ m. let k = those-mem (matches q) p (b .pairs) .0 m in
+                those-mem (matches q) p (members (treeOf c)) .1 (members-stored s p .1 (h .alike p .1 (k .0)), k .1),
+          );
+          once = those-apart (matches q) (members (treeOf c)) (members-apart s);
+          cells = ap (λ ps. written ps out) (listing-pairs q rootStripe (treeOf c) (tree-well s) (roomOf out));
         };
-      })
+      }
 
-  pub check-ends : Ends (play c check) (plainly b check)
-  unfolding play promised plainly
-  check-ends = rw (check-sound c .1 s) (record { outcome = refl; same = stays })
+  pub listing-fits : (q : Limits) (out : List ℕ) → Fits b (listingAsked c q out) (plainListing q (roomOf out) b) out
+  unfolding listingAsked plainListing
+  listing-fits q out = lists-fit _ q out
 
-  pub save-ends : (bytes : List ℕ) → Ends (play c (save bytes)) (plainly b (save bytes))
-  unfolding play promised plainly plainBy saved leftBy
-  save-ends bytes =
-      rw (true-pool c (s .pool), sound-test c s, as-many)
-      (on (ltb (length bytes) (bytesFor (length (b .pairs)))) (λ t. rw t (record { outcome = refl; same = stays })) (λ f. rw f (record { outcome = refl; same = stays })))
+  pub covers-fits : (u : ℕ) (out : List ℕ) → Fits b (listCovers c u out) (plainCovers u (roomOf out) b) out
+  unfolding listCovers plainCovers
+  covers-fits u out = lists-fit _ (coversLimits u) out
 
-  -- a question that answers as over the list ends so
-  asked-ends : (x0 x1 : ℕ) (o r : Outcome) → r ≡ forwards x0 x1 o → Ends (record { cells = c; outcome = r }) (asked b x0 x1 o)
-  unfolding plainBy
-  asked-ends x0 x1 o r e = on (ltb x1 x0)
-      (λ t. rw t (record { outcome = rw t at e; same = stays }))
-      (λ f. rw f (record { outcome = rw f at e; same = stays }))
+  pub meets-fits : (u v : ℕ) (out : List ℕ) → Fits b (listMeets c u v out) (plainMeets u v (roomOf out) b) out
+  unfolding listMeets plainMeets
+  meets-fits u v out = lists-fit _ (meetsLimits u v) out
 
-  pub smallestX-ends : (q : Limits) → Ends (play c (smallest-x q)) (plainly b (smallest-x q))
-  unfolding play promised plainly
-  smallestX-ends q = asked-ends (q .x0) (q .x1) _ _ (smallestX-plain s (b .pairs) (h .alike) q)
+  pub contains-fits : (u v : ℕ) (out : List ℕ) → Fits b (listContains c u v out) (plainContains u v (roomOf out) b) out
+  unfolding listContains plainContains
+  contains-fits u v out = lists-fit _ (containsLimits u v) out
 
-  pub largestX-ends : (q : Limits) → Ends (play c (largest-x q)) (plainly b (largest-x q))
-  unfolding play promised plainly
-  largestX-ends q = asked-ends (q .x0) (q .x1) _ _ (largestX-plain s (b .pairs) (h .alike) q)
+  -- the book: the pairs by ascending x are one list, whatever their order was
+  sorted-same : byX (stored c) ≡ byX (b .pairs)
+  sorted-same =
+      rises-one (byX (stored c)) (byX (b .pairs)) (byX-rises (stored c) (stored-apart s)) (byX-rises (b .pairs) (h .apart))
+      (λ q. (λ m. byX-mem q (b .pairs) .1 (h .alike q .0 (byX-mem q (stored c) .0 m)), λ m. byX-mem q (stored c) .1 (h .alike q .1 (byX-mem q (b .pairs) .0 m))))
 
-  pub smallestY-ends : (x0 x1 : ℕ) → Ends (play c (smallest-y x0 x1)) (plainly b (smallest-y x0 x1))
-  unfolding play promised plainly
-  smallestY-ends x0 x1 = asked-ends x0 x1 _ _ (smallestY-plain s (b .pairs) (h .alike) x0 x1)
+  book-same : bookBytes versionOne (stored c) ≡ bookBytes versionOne (b .pairs)
+  unfolding bookBytes
+  book-same = rw (as-many, sorted-same)
 
-  pub listing-ends : (q : Limits) (out : List ℕ) → Ends (play c (list q out)) (plainly b (list q out))
-  unfolding play promised plainly
-  listing-ends q out = asked-ends (q .x0) (q .x1) _ _ (listing-plain s (b .pairs) (h .alike) (h .apart) q out)
+  pub save-fits : (bytes : List ℕ) → Fits b (saved c bytes) (plainSave versionOne bytes b) bytes
+  unfolding saved plainSave
+  save-fits bytes = record {
+    lines = rw as-many;
+    outcome = refl;
+    same = λ n. h;
+    wrote = λ n. ap (λ v. v ++ drop (length v) bytes) book-same;
+  }

@@ -1,7 +1,5 @@
--- What the promises mean over runs of calls: taken back, and over a plain list.
-pub mod Views
-pub mod TakenBack
-pub mod Plain
+-- What the promises mean over runs of calls: over a plain list, and taken back.
+pub mod Fits
 pub mod Ends
-pub mod Strips
 pub mod Played
+pub mod TakenBack

@@ -1,4 +1,3 @@
--- The laws on what a line prints, and on the line that asks for something.
-pub mod Answering
+-- The laws on a line's one result, and on the line that asks for something.
 pub mod Promised
 pub mod Spelling

@@ -1,37 +1,32 @@
--- What each verdict on a pool says of the two tests.
+-- The verdict, by its two tests, and the check's answer by the verdict.
 use Prim.Native.Nat.{ℕ}
 use mathlib.Core.Path.{_≡_, refl, sym, _∙_}
-use mathlib.Core.Bool.{Bool, true, false, cond}
-use mathlib.Core.List.{List}
+use mathlib.Core.Bool.{Bool, true, false}
+use mathlib.Core.List.{List, []}
+use lib.Dec.{eqb}
+use borrow.Author.Tests.{eqb-true, eqb-false}
+use Rattle.kinds.specs.declared.Answer.{Answer}
+use Rattle.kinds.specs.Answer.{ended}
+use Rattle.kinds.specs.Codes.{done, wrongLength}
+use Rattle.kinds.specs.Promise.{firstCode, Answers}
+use Rattle.kinds.proofs.Tables.{gives, accepts}
+use Rattle.kinds.proofs.Tests.{on}
 use Rattle.pools.specs.Test.{isPool, isSound}
-use Rattle.sound.specs.declared.Health.{Health}
-use Rattle.sound.specs.declared.Health.the-variants.{Sound, Unsound, WrongLength}
-use Rattle.sound.specs.Promises.{healthOf}
+use Rattle.chain.specs.Judged.{verdict}
+use Rattle.sound.specs.Promises.{verdictOf, check}
+use Rattle.sound.proofs.Lines.{entry-passed, entry-ended}
 
-is-sound : (a b : Bool) → cond a (cond b Sound Unsound) WrongLength ≡ Sound → (a ≡ true) × (b ≡ true)
-is-sound true true e = (refl, refl)
-is-sound true false e = (refl, cc)
-is-sound false b e = (cc, cc)
+module _ (c : List ℕ) {b : Bool} (e : b ≡ isPool c) where
+  pub length-wrong : b ≡ false → wrongLength ≡ verdictOf c
+  unfolding verdictOf firstCode
+  length-wrong f = rw (sym e ∙ f)
 
-is-unsound : (a b : Bool) → cond a (cond b Sound Unsound) WrongLength ≡ Unsound → (a ≡ true) × (b ≡ false)
-is-unsound true true e = (refl, cc)
-is-unsound true false e = (refl, refl)
-is-unsound false b e = (cc, cc)
+  pub length-right : b ≡ true → {v : ℕ} → v ≡ verdict (isSound c) → v ≡ verdictOf c
+  unfolding verdictOf firstCode
+  length-right t ev = rw (sym e ∙ t) (on (isSound c) (λ s. rw s (rw s at ev)) (λ s. rw s (rw s at ev)))
 
-is-odd : (a b : Bool) → cond a (cond b Sound Unsound) WrongLength ≡ WrongLength → a ≡ false
-is-odd true true e = cc
-is-odd true false e = cc
-is-odd false b e = refl
-
-module _ (c : List ℕ) {h : Health} where
-  pub found-sound : h ≡ healthOf c → h ≡ Sound → (isPool c ≡ true) × (isSound c ≡ true)
-  unfolding healthOf
-  found-sound e t = is-sound (isPool c) (isSound c) (sym e ∙ t)
-
-  pub found-unsound : h ≡ healthOf c → h ≡ Unsound → (isPool c ≡ true) × (isSound c ≡ false)
-  unfolding healthOf
-  found-unsound e t = is-unsound (isPool c) (isSound c) (sym e ∙ t)
-
-  pub found-odd : h ≡ healthOf c → h ≡ WrongLength → isPool c ≡ false
-  unfolding healthOf
-  found-odd e t = is-odd (isPool c) (isSound c) (sym e ∙ t)
+pub check-answers : (c : List ℕ) {v : ℕ} {r : Answer} → v ≡ verdictOf c → r ≡ ended v → Answers (check c) c r
+unfolding check ended
+check-answers c {v} e er = on (eqb v done)
+    (λ t. let z = eqb-true v done t in entry-passed c e z (accepts [] tt (gives (rw t at er) refl refl)))
+    (λ f. rw er (entry-ended c e _ (eqb-false v done f)))

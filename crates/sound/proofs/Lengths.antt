@@ -7,7 +7,7 @@ use native.Mathlib.Omega.{arith}
 use lib.Dec.{leb, eqb}
 use lib.ListN.{length}
 use borrow.Author.Tests.{eq-eqb, ne-eqb, le-leb, lt-leb, leb-true, leb-false}
-use Rattle.pools.specs.Cells.{perSlot, slotsOf}
+use Rattle.pools.specs.Cells.{mostSlots, perSlot, slotsOf}
 use Rattle.pools.specs.Test.{isPool}
 use Rattle.kinds.proofs.Tests.{on, and-false}
 
@@ -25,5 +25,5 @@ module _ (c : List ℕ) where
   long h k =
       rw (eq-eqb (length c) (perSlot * (slotsOf c + 1)) (omega arith), le-leb 1 (slotsOf c) (omega arith))
       (on (leb (length c) 16384)
-      (λ t. t ∙ sym (le-leb (slotsOf c) 4095 (omega (arith, leb-true))))
-      (λ f. f ∙ sym (lt-leb (slotsOf c) 4095 (omega (arith, leb-false)))))
+      (λ t. t ∙ sym (le-leb (slotsOf c) mostSlots (omega (arith, leb-true))))
+      (λ f. f ∙ sym (lt-leb (slotsOf c) mostSlots (omega (arith, leb-false)))))

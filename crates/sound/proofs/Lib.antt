@@ -2,7 +2,7 @@
 pub mod Lengths
 pub mod Chaining
 pub mod Whole
-pub mod Judged
 pub mod Meaning
 pub mod Lines
+pub mod Judged
 pub mod Tested

@@ -1,46 +1,49 @@
--- The first two lines of every call's table, by the verdict on its pool.
+-- The check's two lines, which come first in every call's table, by the verdict on its pool.
 use Prim.Native.Nat.{ℕ}
-use mathlib.Core.Path.{_≡_, refl}
-use mathlib.Core.List.{List, _∷_}
+use mathlib.Core.Path.{_≡_, sym, ap, _∙_}
+use mathlib.Core.Logic.{_≢_}
+use mathlib.Core.Bool.{not}
+use mathlib.Core.List.{List}
+use native.Mathlib.Omega.{arith}
+use borrow.Author.Tests.{ne-eqb, not-false}
 use Rattle.kinds.specs.declared.Answer.{Answer}
-use Rattle.kinds.specs.Answer.{refused}
-use Rattle.kinds.specs.Codes.{wrongLength, unsound}
-use Rattle.kinds.specs.Refusals.{Line, answerBy, Left, leftBy, Leaves}
+use Rattle.kinds.specs.Answer.{refused, ended}
+use Rattle.kinds.specs.Promise.{given, Promise, NoLine, Keeps}
+use Rattle.kinds.proofs.Tables.{passed, none-holds, none-of, no-code, decides, refuses-code}
 use Rattle.pools.specs.Sound.{Sound}
 use Rattle.pools.proofs.Decided.{true-pool, test-sound, sound-test}
-use Rattle.sound.specs.declared.Health.{Health}
-use Rattle.sound.specs.declared.Health.the-variants.{Sound as well, Unsound as ill, WrongLength as odd}
-use Rattle.sound.specs.Promises.{healthOf, lengthLine, soundLine}
-use Rattle.sound.proofs.Judged.{found-sound, found-unsound, found-odd}
+use Rattle.sound.specs.Promises.{checkLines, verdictOf, behindCheck}
 
-module _ (c : List ℕ) {h : Health} (e : h ≡ healthOf c) where
-  -- a pool that is found sound is
-  pub health-sound : h ≡ well → Sound c
-  health-sound t = test-sound c (found-sound c e t .1)
+-- on a sound pool neither line holds
+pub no-line : {c : List ℕ} → Sound c → NoLine (checkLines c)
+no-line {c} s = (ap not (true-pool c (s .pool)), (ap not (sound-test c s), tt))
 
-  module _ (ls : List Line) where
-    pub left-odd : (d : List ℕ) (w : Left) {r : Answer} → h ≡ odd → r ≡ refused wrongLength → Leaves (leftBy (lengthLine c ∷ soundLine c ∷ ls) d w) d r
-    unfolding leftBy
-    left-odd d w t er = rw (found-odd c e t) (record { cells = refl; answer = er })
+pub sound-verdict : {c : List ℕ} → Sound c → verdictOf c ≡ 0
+unfolding verdictOf
+sound-verdict {c} s = no-code (checkLines c) (no-line s)
 
-    pub left-ill : (d : List ℕ) (w : Left) {r : Answer} → h ≡ ill → r ≡ refused unsound → Leaves (leftBy (lengthLine c ∷ soundLine c ∷ ls) d w) d r
-    unfolding leftBy
-    left-ill d w t er = let g = found-unsound c e t in rw (g .0, g .1) (record { cells = refl; answer = er })
+-- law: on a sound pool, what no line of the call's own refuses is made
+pub entry-made : {c : List ℕ} → Sound c → (P : Promise) (out : List ℕ) → NoLine (P .lines) → given (behindCheck c P) c out ≡ P .made
+entry-made {c} s P out n = passed c out (P .made) (checkLines c) (P .lines) (no-line s) ∙ none-holds c out (P .made) (P .lines) n
 
-    pub answer-odd : (a : Answer) {r : Answer} → h ≡ odd → r ≡ refused wrongLength → r ≡ answerBy (lengthLine c ∷ soundLine c ∷ ls) a
-    unfolding answerBy
-    answer-odd a t er = rw (found-odd c e t) er
+module _ (c : List ℕ) {v : ℕ} (e : v ≡ verdictOf c) where
+  lines-off : v ≡ 0 → NoLine (checkLines c)
+  unfolding verdictOf
+  lines-off z = none-of (checkLines c) (omega arith, (omega arith, tt)) (sym e ∙ z)
 
-    pub answer-ill : (a : Answer) {r : Answer} → h ≡ ill → r ≡ refused unsound → r ≡ answerBy (lengthLine c ∷ soundLine c ∷ ls) a
-    unfolding answerBy
-    answer-ill a t er = let g = found-unsound c e t in rw (g .0, g .1) er
+  -- law: a pool whose verdict is 0 is sound
+  pub verdict-sound : v ≡ 0 → Sound c
+  verdict-sound z = test-sound c (not-false _ (lines-off z .1 .0))
 
--- on a sound pool the other lines decide
-module _ {c : List ℕ} (s : Sound c) (ls : List Line) where
-  pub left-well : (d : List ℕ) (w : Left) → leftBy (lengthLine c ∷ soundLine c ∷ ls) d w ≡ leftBy ls d w
-  unfolding leftBy
-  left-well d w = rw (true-pool c (s .pool), sound-test c s)
+  -- an entry's ways out: the verdict refuses, or the call on the checked pool decides
+  module _ {P : Promise} {out : List ℕ} {r : Answer} where
+    pub entry-passed : {c′ out′ : List ℕ} → v ≡ 0 → Keeps P c out r c′ out′ → Keeps (behindCheck c P) c out r c′ out′
+    entry-passed z k = decides (checkLines c) (lines-off z) k
 
-  pub answer-well : (a : Answer) → answerBy (lengthLine c ∷ soundLine c ∷ ls) a ≡ answerBy ls a
-  unfolding answerBy
-  answer-well a = rw (true-pool c (s .pool), sound-test c s)
+  pub entry-refused : (P : Promise) {out : List ℕ} {r : Answer} → v ≢ 0 → r ≡ refused v → Keeps (behindCheck c P) c out r c out
+  unfolding verdictOf
+  entry-refused P n er = refuses-code (checkLines c) P (λ z. n (e ∙ z)) (er ∙ ap refused e)
+
+  pub entry-ended : (P : Promise) {out : List ℕ} → v ≢ 0 → Keeps (behindCheck c P) c out (ended v) c out
+  unfolding ended
+  entry-ended P n = entry-refused P n (rw (ne-eqb v 0 n))

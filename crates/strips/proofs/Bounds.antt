@@ -1,37 +1,40 @@
 -- The bounds on visits, over the strip calls: for every pool and all numbers.
-use Prim.Native.Nat.{ℕ, _+_, _*_, _≤_}
-use mathlib.Core.List.{List}
-use Rattle.kinds.specs.Answer.{five}
+use Prim.Native.Nat.{ℕ, _+_, _*_}
+use mathlib.Core.List.{List, []}
+use Rattle.kinds.specs.Promise.{given}
+use Rattle.plain.specs.Books.{plainListing}
+use Rattle.plain.specs.Strips.{coversLimits, lastLimits, meetsLimits, containsLimits, plainFirst, plainLast, plainEarliest, plainCovers, plainMeets, plainContains}
 use Rattle.walks.proofs.Visits.{smallestX-visits, largestX-visits, smallestY-visits}
-use Rattle.pool.specs.Asking.{treeOf}
+use Rattle.pools.specs.Cells.{treeOf}
+use Rattle.pools.proofs.InTree.{tree-well}
+use Rattle.sound.specs.Promises.{behindCheck}
+use Rattle.answers.specs.Promises.{firstToEnd, lastToEnd, earliestStart, listingAsked, listCovers, listMeets, listContains}
 use Rattle.pool.specs.Showing.{FewVisits}
-use Rattle.pool.proofs.Bounds.{tree-well, table-bound, listed-bound}
-use Rattle.strips.specs.Strips.{coversLimits, lastLimits, meetsLimits, containsLimits}
-use Rattle.strips.specs.Promises.{firstToEnd, lastToEnd, earliestStart, listCovers, listMeets, listContains}
+use Rattle.pool.proofs.Bounds.{Within, entry-bound, entry-few, listed-few}
 
 module _ (c : List ℕ) where
   -- law: the questions for one strip
-  pub first-bound : (u : ℕ) → five (firstToEnd c u) .visits ≤ 127
-  unfolding firstToEnd
-  first-bound u = table-bound c _ _ 127 (λ s. smallestX-visits (coversLimits u) (treeOf c) (tree-well c s))
+  pub first-bound : (u : ℕ) → Within 127 (given (behindCheck c (firstToEnd c u)) c [] .answer)
+  unfolding firstToEnd plainFirst
+  first-bound u = entry-bound (firstToEnd c u) c [] 127 (λ s. smallestX-visits (coversLimits u) (treeOf c) (tree-well s))
 
-  pub last-bound : (u e : ℕ) → five (lastToEnd c u e) .visits ≤ 127
-  unfolding lastToEnd
-  last-bound u e = table-bound c _ _ 127 (λ s. largestX-visits (lastLimits u e) (treeOf c) (tree-well c s))
+  pub last-bound : (u e : ℕ) → Within 127 (given (behindCheck c (lastToEnd c u e)) c [] .answer)
+  unfolding lastToEnd plainLast
+  last-bound u e = entry-bound (lastToEnd c u e) c [] 127 (λ s. largestX-visits (lastLimits u e) (treeOf c) (tree-well s))
 
-  pub earliest-bound : (u v : ℕ) → five (earliestStart c u v) .visits ≤ 127
-  unfolding earliestStart
-  earliest-bound u v = table-bound c _ _ 127 (λ s. smallestY-visits (u * 65536) (v * 65536 + 65535) (treeOf c) (tree-well c s))
+  pub earliest-bound : (u v : ℕ) → Within 127 (given (behindCheck c (earliestStart c u v)) c [] .answer)
+  unfolding earliestStart plainEarliest
+  earliest-bound u v = entry-bound (earliestStart c u v) c [] 127 (λ s. smallestY-visits (u * 65536) (v * 65536 + 65535) (treeOf c) (tree-well s))
 
   -- law: the lists
-  pub covers-bound : (u : ℕ) (out : List ℕ) → FewVisits (listCovers c u out .answer)
-  unfolding listCovers
-  covers-bound u out = listed-bound c _ (coversLimits u) out
+  pub covers-bound : (u : ℕ) (out : List ℕ) → FewVisits (given (behindCheck c (listCovers c u out)) c out .answer)
+  unfolding listCovers plainCovers listingAsked plainListing
+  covers-bound u out = entry-few c (listCovers c u out) out (listed-few c (coversLimits u) out)
 
-  pub meets-bound : (u v : ℕ) (out : List ℕ) → FewVisits (listMeets c u v out .answer)
-  unfolding listMeets
-  meets-bound u v out = listed-bound c _ (meetsLimits u v) out
+  pub meets-bound : (u v : ℕ) (out : List ℕ) → FewVisits (given (behindCheck c (listMeets c u v out)) c out .answer)
+  unfolding listMeets plainMeets listingAsked plainListing
+  meets-bound u v out = entry-few c (listMeets c u v out) out (listed-few c (meetsLimits u v) out)
 
-  pub contains-bound : (u v : ℕ) (out : List ℕ) → FewVisits (listContains c u v out .answer)
-  unfolding listContains
-  contains-bound u v out = listed-bound c _ (containsLimits u v) out
+  pub contains-bound : (u v : ℕ) (out : List ℕ) → FewVisits (given (behindCheck c (listContains c u v out)) c out .answer)
+  unfolding listContains plainContains listingAsked plainListing
+  contains-bound u v out = entry-few c (listContains c u v out) out (listed-few c (containsLimits u v) out)

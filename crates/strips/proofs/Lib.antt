@@ -1,5 +1,3 @@
--- What the strip calls mean.
-pub mod Limits
+-- What the strip calls mean, in a rider's words, and the bounds on their visits.
 pub mod Rider
-pub mod Tabled
 pub mod Bounds

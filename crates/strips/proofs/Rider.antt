@@ -3,7 +3,7 @@ use Prim.Native.Nat.{ℕ, _+_, _*_, _≤_, _<_}
 use mathlib.Core.Path.{_≡_, refl}
 use mathlib.Core.Logic.{_↔_}
 use mathlib.Core.Bool.{Bool, true, false, _||_}
-use mathlib.Core.List.{List, List·Memᴰ}
+use mathlib.Core.List.{List, [], List·Memᴰ}
 use native.Mathlib.Omega.{arith}
 use lib.Dec.{ltb}
 use borrow.Author.Tests.{ltb-true, ltb-false, le-ltb}
@@ -14,23 +14,27 @@ use Rattle.kinds.specs.declared.Outcome.the-variants.{Found, Nothing}
 use Rattle.kinds.specs.declared.Pair.{Pair}
 use Rattle.pools.specs.Cells.{stored}
 use Rattle.kinds.specs.Pairs.{beats, lower}
+use Rattle.plain.specs.Books.{plainListing}
 use Rattle.plain.specs.Plain.{matches, smallestXOf, largestXOf, smallestYOf, Closest, NoMatch}
-use Rattle.kinds.specs.Refusals.{answerBy, Left}
+use Rattle.kinds.specs.Answer.{outcomeOf}
+use Rattle.kinds.specs.Promise.{Result, given}
 use Rattle.pools.specs.Sound.{Sound}
-use Rattle.kinds.proofs.Tests.{on, clash, neither}
-use Rattle.pools.proofs.Decided.{true-pool, sound-test}
+use Rattle.kinds.proofs.Tests.{on, clash}
 use Rattle.kinds.proofs.Order.{true-beats}
 use Rattle.plain.proofs.Scan.{smallestXOf-found, smallestXOf-nothing, largestXOf-found, largestXOf-nothing, smallestYOf-found, smallestYOf-nothing}
 use Rattle.pools.proofs.Stored.{stored-mem, stored-apart}
 use Rattle.pools.proofs.TakenBack.{member-low}
-use Rattle.pool.specs.Asking.{outcomeOf, listingLeft}
 use Rattle.pool.specs.Showing.{Shows}
-use Rattle.pool.proofs.Shown.{listing-shows}
-use Rattle.strips.specs.Strips.{startOf, endOf, Covers, Meets, Contains, over, coversLimits, lastLimits, meetsLimits, containsLimits}
-use Rattle.strips.specs.Promises.{firstToEnd, lastToEnd, earliestStart, listCovers, listMeets, listContains}
+use Rattle.pool.proofs.Shown.{made-shows}
+use Rattle.plain.specs.Strips.{startOf, endOf, Covers, Meets, Contains, over, coversLimits, lastLimits, meetsLimits, containsLimits, plainCovers, plainMeets, plainFirst, plainLast, plainEarliest, plainContains}
+use Rattle.sound.specs.Promises.{behindCheck}
+use Rattle.sound.proofs.Lines.{entry-made}
+use Rattle.answers.specs.Promises.{firstToEnd, lastToEnd, earliestStart, listingAsked, listCovers, listMeets, listContains}
 use Rattle.strips.specs.Riding.{Ahead, Behind, Unbeaten, CoversBy, EndsIn, CoversSome, CoversAll, Drawn, None}
-use Rattle.strips.proofs.Limits.{covers-limits, meets-limits, contains-limits, last-limits, ends-limits}
-use Rattle.strips.proofs.Tabled.{covers-is, meets-is, contains-is}
+use Rattle.plain.proofs.Limits.{covers-limits, meets-limits, contains-limits, last-limits, ends-limits}
+
+or-false : {a b : Bool} → a ≡ false → b ≡ false → (a || b) ≡ false
+or-false {a} {b} h k = rw (h, k)
 
 ahead-of : (p q : Pair) → p .x ≤ q .x → Ahead p q
 ahead-of p q h = record { end = omega arith; number = λ e. omega arith }
@@ -79,12 +83,12 @@ module _ {c : List ℕ} (s : Sound c) where
   by-end p q = (λ f. ahead-of p q (ltb-false (q .x) (p .x) f), λ a. le-ltb (q .x) (p .x) (of-ahead p q a))
 
   module _ (u : ℕ) (h : over u ≡ false) where
-    first-is : firstToEnd c u .outcome ≡ outcomeOf (smallestXOf (coversLimits u) (stored c))
-    unfolding firstToEnd answerBy
-    first-is = rw (true-pool c (s .pool), sound-test c s, h)
+    first-is : given (behindCheck c (firstToEnd c u)) c [] .answer .outcome ≡ outcomeOf (smallestXOf (coversLimits u) (stored c))
+    unfolding firstToEnd plainFirst
+    first-is = rw (entry-made s (firstToEnd c u) [] (h, tt))
 
     -- law: first to end draws a stored strip that covers u, and no strip that covers u ends earlier, or ends with it and has a lower number
-    pub first-drawn : (p : Pair) → (firstToEnd c u .outcome ≡ Found p) ↔ Drawn c (Covers u) Ahead p
+    pub first-drawn : (p : Pair) → (given (behindCheck c (firstToEnd c u)) c [] .answer .outcome ≡ Found p) ↔ Drawn c (Covers u) Ahead p
     first-drawn p =
         let f = outcome-found (smallestXOf (coversLimits u) (stored c)) p in
         let g = smallestXOf-found (stored c) (stored-apart s) p (coversLimits u) in
@@ -92,7 +96,7 @@ module _ {c : List ℕ} (s : Sound c) where
         rw first-is (λ e. d .0 (g .0 (f .0 e)), λ e. f .1 (g .1 (d .1 e)))
 
     -- law: nothing matches exactly when no stored strip covers u
-    pub first-nothing : (firstToEnd c u .outcome ≡ Nothing) ↔ None c (Covers u)
+    pub first-nothing : (given (behindCheck c (firstToEnd c u)) c [] .answer .outcome ≡ Nothing) ↔ None c (Covers u)
     first-nothing =
         let f = outcome-nothing (smallestXOf (coversLimits u) (stored c)) in
         let g = smallestXOf-nothing (stored c) (coversLimits u) in
@@ -103,19 +107,19 @@ module _ {c : List ℕ} (s : Sound c) where
   by-last p q = by-end q p
 
   module _ (u e : ℕ) (hu : over u ≡ false) (he : over e ≡ false) (o : ltb e u ≡ false) where
-    last-is : lastToEnd c u e .outcome ≡ outcomeOf (largestXOf (lastLimits u e) (stored c))
-    unfolding lastToEnd answerBy
-    last-is = rw (true-pool c (s .pool), sound-test c s, hu, he, o)
+    last-is : given (behindCheck c (lastToEnd c u e)) c [] .answer .outcome ≡ outcomeOf (largestXOf (lastLimits u e) (stored c))
+    unfolding lastToEnd plainLast
+    last-is = rw (entry-made s (lastToEnd c u e) [] (or-false hu he, (o, tt)))
 
     -- law: last to end draws a stored strip that covers u and ends no later than e, and no such strip ends later, or ends with it and has a higher number
-    pub last-drawn : (p : Pair) → (lastToEnd c u e .outcome ≡ Found p) ↔ Drawn c (CoversBy u e) Behind p
+    pub last-drawn : (p : Pair) → (given (behindCheck c (lastToEnd c u e)) c [] .answer .outcome ≡ Found p) ↔ Drawn c (CoversBy u e) Behind p
     last-drawn p =
         let f = outcome-found (largestXOf (lastLimits u e) (stored c)) p in
         let g = largestXOf-found (stored c) (stored-apart s) p (lastLimits u e) in
         let d = drawn-of (CoversBy u e) Behind (λ p b. last-limits p b u e) by-last p in
         rw last-is (λ k. d .0 (g .0 (f .0 k)), λ k. f .1 (g .1 (d .1 k)))
 
-    pub last-nothing : (lastToEnd c u e .outcome ≡ Nothing) ↔ None c (CoversBy u e)
+    pub last-nothing : (given (behindCheck c (lastToEnd c u e)) c [] .answer .outcome ≡ Nothing) ↔ None c (CoversBy u e)
     last-nothing =
         let f = outcome-nothing (largestXOf (lastLimits u e) (stored c)) in
         let g = largestXOf-nothing (stored c) (lastLimits u e) in
@@ -123,19 +127,19 @@ module _ {c : List ℕ} (s : Sound c) where
         rw last-is (λ k. d .0 (g .0 (f .0 k)), λ k. f .1 (g .1 (d .1 k)))
 
   module _ (u v : ℕ) (hu : over u ≡ false) (hv : over v ≡ false) (o : ltb v u ≡ false) where
-    earliest-is : earliestStart c u v .outcome ≡ outcomeOf (smallestYOf (u * 65536) (v * 65536 + 65535) (stored c))
-    unfolding earliestStart answerBy
-    earliest-is = rw (true-pool c (s .pool), sound-test c s, hu, hv, o)
+    earliest-is : given (behindCheck c (earliestStart c u v)) c [] .answer .outcome ≡ outcomeOf (smallestYOf (u * 65536) (v * 65536 + 65535) (stored c))
+    unfolding earliestStart plainEarliest
+    earliest-is = rw (entry-made s (earliestStart c u v) [] (or-false hu hv, (o, tt)))
 
     -- law: earliest start draws, of the stored strips that end in u..v, one that no other beats
-    pub earliest-drawn : (p : Pair) → (earliestStart c u v .outcome ≡ Found p) ↔ Drawn c (EndsIn u v) Unbeaten p
+    pub earliest-drawn : (p : Pair) → (given (behindCheck c (earliestStart c u v)) c [] .answer .outcome ≡ Found p) ↔ Drawn c (EndsIn u v) Unbeaten p
     earliest-drawn p =
         let f = outcome-found (smallestYOf (u * 65536) (v * 65536 + 65535) (stored c)) p in
         let g = smallestYOf-found (stored c) (stored-apart s) p (u * 65536) (v * 65536 + 65535) in
         let d = drawn-of (EndsIn u v) Unbeaten (λ p b. ends-limits p b u v) (λ p q. (λ e. e, λ e. e)) p in
         rw earliest-is (λ k. d .0 (g .0 (f .0 k)), λ k. f .1 (g .1 (d .1 k)))
 
-    pub earliest-nothing : (earliestStart c u v .outcome ≡ Nothing) ↔ None c (EndsIn u v)
+    pub earliest-nothing : (given (behindCheck c (earliestStart c u v)) c [] .answer .outcome ≡ Nothing) ↔ None c (EndsIn u v)
     earliest-nothing =
         let f = outcome-nothing (smallestYOf (u * 65536) (v * 65536 + 65535) (stored c)) in
         let g = smallestYOf-nothing (stored c) (u * 65536) (v * 65536 + 65535) in
@@ -143,41 +147,36 @@ module _ {c : List ℕ} (s : Sound c) where
         rw earliest-is (λ k. d .0 (g .0 (f .0 k)), λ k. f .1 (g .1 (d .1 k)))
 
   -- the list of a question shows exactly the stored strips that are asked for, each once
-  shows-of : (q : Limits) (Asked : Pair → Type 0) (w : Left) (out : List ℕ) → ((p : Pair) → p .x < 4294967296 → (matches q p ≡ true) ↔ Asked p)
-      → ltb (q .x1) (q .x0) ≡ false → w ≡ listingLeft c q out → Shows c out Asked w
-  shows-of q Asked w out fits o e =
-      let S = listing-shows s q out o in
-      record {
+  shows-of : (q : Limits) (Asked : Pair → Type 0) (out : List ℕ) → ((p : Pair) → p .x < 4294967296 → (matches q p ≡ true) ↔ Asked p)
+      → {w : Result} → w ≡ listingAsked c q out .made → Shows c out Asked w
+  shows-of q Asked out fits e =
+      let S = made-shows s q out in
+      rw e (record {
         all = S .all;
         exactly = λ p. (
           λ m. let k = S .exactly p .0 m in (k .0, fits p (small p (k .0)) .0 (k .1)),
           λ k. S .exactly p .1 (k .0, fits p (small p (k .0)) .1 (k .1)),
         );
         once = S .once;
-        cells = rw e (S .cells);
-        outcome = rw e (S .outcome);
-      }
+        lent = S .lent;
+        outcome = S .outcome;
+      })
 
   -- law: the strips that cover u
-  pub covers-shows : (u : ℕ) (out : List ℕ) → over u ≡ false → Shows c out (Covers u) (listCovers c u out)
-  covers-shows u out h =
-      let b = ltb-false 65535 u h in
-      shows-of (coversLimits u) (Covers u) (listCovers c u out) out (λ p k. covers-limits p k u) (le-ltb 4294967295 (u * 65536) (omega arith)) (covers-is c out u (over u) refl h)
+  pub covers-shows : (u : ℕ) (out : List ℕ) → over u ≡ false → Shows c out (Covers u) (given (behindCheck c (listCovers c u out)) c out)
+  unfolding listCovers plainCovers listingAsked plainListing
+  covers-shows u out h = shows-of (coversLimits u) (Covers u) out (λ p k. covers-limits p k u) (entry-made s (listCovers c u out) out (h, tt))
 
-  module _ (u v : ℕ) (out : List ℕ) (h : (over u || over v) ≡ false) (o : u ≤ v) where
+  module _ (u v : ℕ) (out : List ℕ) (h : (over u || over v) ≡ false) (o : ltb v u ≡ false) where
     -- law: those that meet u..v
-    pub meets-shows : Shows c out (Meets u v) (listMeets c u v out)
-    meets-shows =
-        let b = ltb-false 65535 u (neither (over u) (over v) h .0) in
-        shows-of (meetsLimits u v) (Meets u v) (listMeets c u v out) out (λ p k. meets-limits p k u v) (le-ltb 4294967295 (u * 65536) (omega arith))
-        (meets-is c out u v (over u || over v) refl h o)
+    pub meets-shows : Shows c out (Meets u v) (given (behindCheck c (listMeets c u v out)) c out)
+    unfolding listMeets plainMeets listingAsked plainListing
+    meets-shows = shows-of (meetsLimits u v) (Meets u v) out (λ p k. meets-limits p k u v) (entry-made s (listMeets c u v out) out (h, (o, tt)))
 
     -- law: those that contain u..v
-    pub contains-shows : Shows c out (Contains u v) (listContains c u v out)
-    contains-shows =
-        let b = ltb-false 65535 v (neither (over u) (over v) h .1) in
-        shows-of (containsLimits u v) (Contains u v) (listContains c u v out) out (λ p k. contains-limits p k u v) (le-ltb 4294967295 (v * 65536) (omega arith))
-        (contains-is c out u v (over u || over v) refl h o)
+    pub contains-shows : Shows c out (Contains u v) (given (behindCheck c (listContains c u v out)) c out)
+    unfolding listContains plainContains listingAsked plainListing
+    contains-shows = shows-of (containsLimits u v) (Contains u v) out (λ p k. contains-limits p k u v) (entry-made s (listContains c u v out) out (h, (o, tt)))
 
 -- law: an earliest start is no later than any other
 pub unbeaten-start : (p q : Pair) → Unbeaten p q → startOf p ≤ startOf q

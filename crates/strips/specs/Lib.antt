@@ -1,4 +1,2 @@
--- Strips as pairs, the promises of the strip calls, and what a rider may read in them.
-pub mod Strips
-pub mod Promises
+-- What a rider asks for, and which strip a question is to draw.
 pub mod Riding

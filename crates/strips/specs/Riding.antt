@@ -6,7 +6,7 @@ use mathlib.Core.List.{List, List·Memᴰ}
 use Rattle.kinds.specs.declared.Pair.{Pair}
 use Rattle.pools.specs.Cells as pool
 use Rattle.kinds.specs.Pairs.{beats}
-use Rattle.strips.specs.Strips.{endOf, numberOf, Covers}
+use Rattle.plain.specs.Strips.{endOf, numberOf, Covers}
 
 -- p ends before q, or with it and has a number no higher
 pub record Ahead (p q : Pair) : Type 0 where

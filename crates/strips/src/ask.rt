@@ -1,45 +1,39 @@
 // The questions for one strip.
-use super::shape;
 use kinds::Answer;
 use kinds::codes;
-ghost use mathlib.Core.Path.{_≡_};
-ghost use Rattle.strips.specs.Promises.{firstToEnd, lastToEnd, earliestStart};
+ghost use Rattle.kinds.specs.Promise.{Answers};
+ghost use Rattle.sound.specs.Promises.{behindCheck};
+ghost use Rattle.answers.specs.Promises.{firstToEnd, lastToEnd, earliestStart};
 
 // The strip that covers slot u and ends first.
 pub fn first_to_end(pool: &[u32], u: u32) -> Answer
-    ensures { λ r. ⌜ r ≡ firstToEnd (now (pool .entry)) u ⌝ }
+    ensures { λ r. ⌜ Answers (behindCheck (now (pool .entry)) (firstToEnd (now (pool .entry)) u)) (now (pool .entry)) r ⌝ }
 {
-    if shape::over(u) {
-        return shape::refuse(pool, codes::NO_STRIP);
+    let verdict = sound::verdict(pool);
+    if verdict != codes::DONE {
+        return Answer::refused(verdict);
     }
-    pool::smallest_x(pool, u * shape::PER_END, shape::LAST_X, u)
+    answers::first_to_end(pool, u)
 }
 
 // The strip that covers slot u and ends last, no later than e.
 pub fn last_to_end(pool: &[u32], u: u32, e: u32) -> Answer
-    ensures { λ r. ⌜ r ≡ lastToEnd (now (pool .entry)) u e ⌝ }
+    ensures { λ r. ⌜ Answers (behindCheck (now (pool .entry)) (lastToEnd (now (pool .entry)) u e)) (now (pool .entry)) r ⌝ }
 {
-    if shape::either_over(u, e) {
-        return shape::refuse(pool, codes::NO_STRIP);
+    let verdict = sound::verdict(pool);
+    if verdict != codes::DONE {
+        return Answer::refused(verdict);
     }
-    pool::largest_x(
-        pool,
-        u * shape::PER_END,
-        e * shape::PER_END + shape::LARGEST,
-        u,
-    )
+    answers::last_to_end(pool, u, e)
 }
 
 // Of the strips that end in u..v, the one with the earliest start.
 pub fn earliest_start(pool: &[u32], u: u32, v: u32) -> Answer
-    ensures { λ r. ⌜ r ≡ earliestStart (now (pool .entry)) u v ⌝ }
+    ensures { λ r. ⌜ Answers (behindCheck (now (pool .entry)) (earliestStart (now (pool .entry)) u v)) (now (pool .entry)) r ⌝ }
 {
-    if shape::either_over(u, v) {
-        return shape::refuse(pool, codes::NO_STRIP);
+    let verdict = sound::verdict(pool);
+    if verdict != codes::DONE {
+        return Answer::refused(verdict);
     }
-    pool::smallest_y(
-        pool,
-        u * shape::PER_END,
-        v * shape::PER_END + shape::LARGEST,
-    )
+    answers::earliest_start(pool, u, v)
 }

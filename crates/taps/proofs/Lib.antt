@@ -1,2 +1,3 @@
--- The law on a part of a slice.
+-- The laws on a part of a slice, and on the pool at the start.
 pub mod Parts
+pub mod Started

@@ -1,8 +1,10 @@
 // The script program: lines from standard input, answers to standard output, in large pieces.
+// It writes its pool by its own calls alone, so that it is sound from set up on, and no line checks it.
 use bytes::scan;
-use script::Told;
+use lines::Told;
 ghost use Prim.Native.Nat.{_≤_};
 ghost use lib.ListN.{length};
+ghost use Rattle.pools.specs.Sound.{Sound};
 
 // The bytes of a line that are kept while its end has not been read: one more than a line may have.
 const KEPT: usize = 64;
@@ -39,10 +41,10 @@ fn flush(output: &[u8], held: usize) -> bool
 
 // A line is answered behind what the output holds, which is written first where there may be no room.
 fn answer(cells: &mut [u32], room: &mut [u32], line: &[u8], output: &mut [u8], held: usize) -> Held
-    requires { ⌜ held ≤ length (now output) ⌝ }
-    ensures { λ r. ⌜ r .bytes ≤ length (now (output .entry)) ⌝ }
+    requires { ⌜ Sound (now cells) × (held ≤ length (now output)) ⌝ }
+    ensures { λ r. ⌜ Sound (now (cells .exit)) × (r .bytes ≤ length (now (output .entry))) ⌝ }
 {
-    let behind = script::answer_line(cells, room, line, &mut output[held..]);
+    let behind = lines::answer_checked(cells, room, line, &mut output[held..]);
     if let Told::Bytes(n) = behind {
         return Held {
             bytes: held + n,
@@ -55,7 +57,7 @@ fn answer(cells: &mut [u32], room: &mut [u32], line: &[u8], output: &mut [u8], h
             open: false,
         };
     }
-    let first = script::answer_line(cells, room, line, output);
+    let first = lines::answer_checked(cells, room, line, output);
     match first {
         Told::Bytes(n) => Held {
             bytes: n,
@@ -76,8 +78,8 @@ fn answer_lines(
     to: usize,
     output: &mut [u8],
 ) -> Place
-    requires { ⌜ to ≤ length (now input) ⌝ }
-    ensures { λ r. ⌜ (r .from ≤ to) × (r .held .bytes ≤ length (now (output .exit))) ⌝ }
+    requires { ⌜ Sound (now cells) × (to ≤ length (now input)) ⌝ }
+    ensures { λ r. ⌜ Sound (now (cells .exit)) × (r .from ≤ to) × (r .held .bytes ≤ length (now (output .exit))) ⌝ }
 {
     let mut from = 0;
     let mut held = Held {
@@ -129,8 +131,8 @@ fn turn(
     kept: usize,
     output: &mut [u8],
 ) -> Left
-    requires { ⌜ kept ≤ length (now input) ⌝ }
-    ensures { λ r. ⌜ r .kept ≤ length (now (input .exit)) ⌝ }
+    requires { ⌜ Sound (now cells) × (kept ≤ length (now input)) ⌝ }
+    ensures { λ r. ⌜ Sound (now (cells .exit)) × (r .kept ≤ length (now (input .exit))) ⌝ }
 {
     let free = &mut input[kept..];
     let got = io::count(libc::read(0, free), free);
@@ -154,7 +156,8 @@ fn turn(
 
 // Turns until nothing more is read or written. What is kept is then the last line, if its newline is missing.
 fn read_all(cells: &mut [u32], room: &mut [u32], input: &mut [u8], output: &mut [u8]) -> usize
-    ensures { λ r. ⌜ r ≤ length (now (input .exit)) ⌝ }
+    requires { ⌜ Sound (now cells) ⌝ }
+    ensures { λ r. ⌜ Sound (now (cells .exit)) × (r ≤ length (now (input .exit))) ⌝ }
 {
     let mut kept = 0;
     let mut left = READS;
@@ -169,7 +172,10 @@ fn read_all(cells: &mut [u32], room: &mut [u32], input: &mut [u8], output: &mut 
     kept
 }
 
-fn run(cells: &mut [u32], room: &mut [u32], input: &mut [u8], output: &mut [u8]) {
+// The whole input is answered, and the last line too if its newline is missing.
+fn run(cells: &mut [u32], room: &mut [u32], input: &mut [u8], output: &mut [u8])
+    requires { ⌜ Sound (now cells) ⌝ }
+{
     let kept = read_all(cells, room, input, output);
     if kept == 0 {
         return;

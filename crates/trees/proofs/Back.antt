@@ -3,10 +3,10 @@ use Prim.Native.Nat.{ℕ}
 use mathlib.Core.Path.{_≡_}
 use Rattle.kinds.specs.declared.Pair.{Pair}
 use Rattle.kinds.specs.Stripe.{Stripe, In}
-use Rattle.trees.specs.Tree.{Tree, fork, All, Mem, Tops, Under, Well}
+use Rattle.trees.specs.Tree.{Tree, fork, All, Mem, Tops, Under, Well, New}
 use Rattle.trees.specs.Changes.{goDown, takeOut}
 use Rattle.kinds.proofs.Order.{beats-asym}
-use Rattle.trees.proofs.Trees.{New, tops-of}
+use Rattle.trees.proofs.Trees.{tops-of}
 use Rattle.trees.proofs.GoDown.{swap, keep, Down, put, go-left, go-right, down-view, down-value}
 use Rattle.trees.proofs.TakeOut.{Filled, last, from-left, from-right, Taken, hit, out-left, out-right, all-taken, taken-view, taken-value}
 

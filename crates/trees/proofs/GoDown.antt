@@ -10,11 +10,11 @@ use borrow.Author.Tests.{ltb-true, ltb-false, lt-ltb, le-ltb}
 use Rattle.kinds.specs.declared.Pair.{Pair}
 use Rattle.kinds.specs.Pairs.{Beats, beats}
 use Rattle.kinds.specs.Stripe.{Stripe, In, middle, leftPart, rightPart}
-use Rattle.trees.specs.Tree.{Tree, none, fork, All, Mem, Under, Well-fork, Well}
+use Rattle.trees.specs.Tree.{Tree, none, fork, All, Mem, Under, Well-fork, Well, New}
 use Rattle.trees.specs.Changes.{goDown}
 use Rattle.kinds.proofs.Tests.{on}
 use Rattle.kinds.proofs.Order.{beats-true, true-beats, false-beats, beats-false, beats-trans}
-use Rattle.trees.proofs.Trees.{all-map, all-and, all-at, all-mem, New, under-new}
+use Rattle.trees.proofs.Trees.{all-map, all-and, all-at, all-mem, under-new}
 
 module _ {A : Type 0} (key : A → Pair) where
   -- of p and q, the first stays and the second goes on

@@ -7,9 +7,9 @@ use lib.Dec.{ltb}
 use borrow.Author.Tests.{eq-eqb, ne-eqb, lt-ltb, le-ltb}
 use Rattle.kinds.specs.declared.Pair.{Pair}
 use Rattle.kinds.specs.Stripe.{Stripe, middle, leftPart, rightPart}
-use Rattle.trees.specs.Tree.{Tree, none, fork, Mem, here, in-left, in-right, Well}
+use Rattle.trees.specs.Tree.{Tree, none, fork, Mem, here, in-left, in-right, Well, New}
 use Rattle.trees.specs.Changes.{met}
-use Rattle.trees.proofs.Trees.{all-map, all-at, all-mem, well-in, New}
+use Rattle.trees.proofs.Trees.{all-map, all-at, all-mem, well-in}
 
 module _ {A : Type 0} (key : A → Pair) where
   pub mem-met : (p : A) (s : Stripe) (t : Tree A) → Well key s t → Mem p t → met key (key p .x) s t ≡ true

@@ -7,17 +7,11 @@ use lib.Dec.{eqb}
 use borrow.Author.Tests.{eqb-true, eqb-false}
 use Rattle.kinds.specs.declared.Pair.{Pair}
 use Rattle.kinds.specs.Stripe.{Stripe}
-use Rattle.trees.specs.Tree.{Tree, none, fork, size}
+use Rattle.trees.specs.Tree.{Tree, none, fork, size, Stands, at-top, at-left, at-right, Distinct}
 use Rattle.kinds.proofs.Tests.{on}
 use Rattle.trees.proofs.GoDown.{Down, put, go-left, go-right}
 
 module _ {A : Type 0} where
-  -- u is a slot of the tree
-  pub data Stands (u : ℕ) : Tree A → Type 0 where
-    at-top : {s : ℕ} {p : A} {l r : Tree A} → u ≡ s → Stands u (fork s p l r)
-    at-left : {s : ℕ} {p : A} {l r : Tree A} → Stands u l → Stands u (fork s p l r)
-    at-right : {s : ℕ} {p : A} {l r : Tree A} → Stands u r → Stands u (fork s p l r)
-
   -- it is, or it is not
   stands-fork : {u s : ℕ} {p : A} {l r : Tree A} → (u ≢ s) → Stands u l ⊎ (Stands u l → ⊥) → Stands u r ⊎ (Stands u r → ⊥)
       → Stands u (fork s p l r) ⊎ (Stands u (fork s p l r) → ⊥)
@@ -36,18 +30,6 @@ module _ {A : Type 0} where
       let L = stands u l in
       let R = stands u r in
       on (eqb u s) (λ e. inl (at-top (eqb-true _ _ e))) (λ e. stands-fork (eqb-false _ _ e) L R)
-
-  -- no slot stands twice
-  pub record Distinct-fork (s : ℕ) (l r : Tree A) (L R : Type 0) : Type 0 where
-    pub not-left : Stands s l → ⊥
-    pub not-right : Stands s r → ⊥
-    pub across : (u : ℕ) → Stands u l → Stands u r → ⊥
-    pub left : L
-    pub right : R
-
-  abbrev pub Distinct : Tree A → Type 0
-  Distinct none = Unit {0}
-  Distinct (fork s p l r) = Distinct-fork s l r (Distinct l) (Distinct r)
 
 module _ {A : Type 0} (key : A → Pair) {f : ℕ} where
   -- the slots afterwards are those before, and f

@@ -1,11 +1,9 @@
 -- What holds of all members of a tree, and what a well-formed tree keeps where. `A` is what a slot holds, and `key` gives its pair.
-use Prim.Native.Nat.{ℕ}
 use mathlib.Core.Path.{refl, sym, subst}
-use mathlib.Core.Logic.{_≢_}
 use native.Mathlib.Omega.{arith}
 use Rattle.kinds.specs.declared.Pair.{Pair}
 use Rattle.kinds.specs.Stripe.{Stripe, In, leftPart, rightPart}
-use Rattle.trees.specs.Tree.{Tree, none, fork, All, Mem, here, in-left, in-right, Tops, free, over, Under, Well}
+use Rattle.trees.specs.Tree.{Tree, none, fork, All, Mem, here, in-left, in-right, Tops, free, over, Under, Well, New}
 
 module _ {A : Type 0} where
   pub all-map : {P Q : A → Type 0} → ((q : A) → P q → Q q) → (t : Tree A) → All P t → All Q t
@@ -33,11 +31,7 @@ module _ {A : Type 0} (key : A → Pair) where
       let h = f .inside in
       (h, all-map (λ q i. omega arith) l (well-in (leftPart s) l (f .left)), all-map (λ q i. omega arith) r (well-in (rightPart s) r (f .right)))
 
-  -- no member has this x
-  abbrev pub New : ℕ → Tree A → Type 0
-  New x t = All (λ q. x ≢ key q .x) t
-
-  pub under-new : (p : Pair) (t : Tree A) → All (λ q. Under p (key q)) t → New (p .x) t
+  pub under-new : (p : Pair) (t : Tree A) → All (λ q. Under p (key q)) t → New key (p .x) t
   under-new p t h = all-map (λ q u. u .apart) t h
 
   -- what stands over a tree beats its top

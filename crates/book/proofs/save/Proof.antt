@@ -1,39 +1,30 @@
 -- The verdict on the pool decides.
-use Rattle.sound.proofs.Lines.{health-sound, left-odd, left-ill}
-use Rattle.book.specs.Promises.{saved}
+use Rattle.sound.proofs.Lines.{verdict-sound, entry-passed, entry-refused}
+use Rattle.answers.specs.Promises.{saved}
 use borrow.Author.Needs.{needs}
 use Rattle.book.proofs.save.Statement.{statement}
 use Rattle.book.proofs.save.Tie as tie
 
-save-sound-requires : tie.Need-save-sound-requires
-save-sound-requires c κs =
-    let p1 = c .before in let p3 = p1 .before .before in
-    health-sound _ (p3 .health-of .ensures) (p1 .enum-told .given .1)
+returns : tie.Need-returns
+returns c =
+    let at-if1 = c .before in
+    let at-verdict = at-if1 .before in
+    entry-refused _ (at-verdict .verdict .ensures) (saved _ _) (at-if1 .if1 .taken) (c .refused .ensures)
+
+save-requires : tie.Need-save-requires
+save-requires c κs =
+    let at-if1 = c .before in
+    let at-verdict = at-if1 .before in
+    verdict-sound _ (at-verdict .verdict .ensures) (at-if1 .if1 .left)
 
 returns-2 : tie.Need-returns-2
-unfolding saved
 returns-2 c =
-    let p1 = c .before in let p3 = p1 .before .before in
-    left-ill _ (p3 .health-of .ensures) _ _ _ (p1 .enum-told2 .given .1) (c .refused .ensures)
-
-returns-3 : tie.Need-returns-3
-unfolding saved
-returns-3 c =
-    let p1 = c .before in let p3 = p1 .before .before in
-    left-odd _ (p3 .health-of .ensures) _ _ _ (p1 .enum-told3 .given .1) (c .refused2 .ensures)
+    let at-save = c .before .before in
+    let at-if1 = at-save .before .before in
+    let at-verdict = at-if1 .before in
+    entry-passed _ (at-verdict .verdict .ensures) (at-if1 .if1 .left) (at-save .save .ensures)
 
 pub save-spec : {M : Type 1} → statement M
 save-spec =
     tie.close
-    (tie.spec
-    (λ c κs. search needs)
-    (λ c. search needs)
-    save-sound-requires
-    (λ c. search needs)
-    (λ c κs. search needs)
-    (λ c. search needs)
-    (λ c κs. search needs)
-    (λ c. search needs)
-    (λ c. search needs)
-    returns-2
-    returns-3)
+    (tie.spec (λ c κs. search needs) (λ c κs. search needs) returns save-requires (λ c. search needs) returns-2)

@@ -1,6 +1,6 @@
--- At an empty place the free slot is taken; at a slot the beaten pair goes on, with a level less.
+-- At an empty place the free slot is taken; at a slot the beaten pair goes on, to the son's place on its side. The levels fall: where a slot
+-- with another x stands there is a level below. Each need is one law of Carrying.antt.
 use Prim.Native.Nat.{ℕ, _<_}
-use native.Mathlib.Omega.{arith}
 use Rattle.down.proofs.Carrying.{going-room, going-fits, put-there, some-left, one-less, goes-down, gone-down}
 use borrow.Author.Needs.{needs}
 use borrow.Fn.Kinds.{In}
@@ -28,40 +28,53 @@ abbrev carry-calls : ℕ → carry-lts.Claims
 carry-calls t = (take-free-reads.Asked, take-free-reads.Learnt, settle-reads.Asked, settle-reads.Learnt, is-left-reads.Asked, is-left-reads.Learnt, link-cell-reads.Asked, link-cell-reads.Learnt, carry-below t, carry.Post)
 
 carry-slice-read-slot : (t : ℕ) → carry-lts.Need-slice-read-slot (carry-calls t) (carry-at t) carry.Post
-carry-slice-read-slot t c = c .before .before .pre .1 .1 .inside
+carry-slice-read-slot t c = c .before .before .pre .1 .place .inside
 
 carry-take-free-requires : (t : ℕ) → carry-lts.Need-take-free-requires (carry-calls t) (carry-at t) carry.Post
-carry-take-free-requires t c κs = going-room (c .before .before .before .before .pre .1 .1)
+carry-take-free-requires t c κs = going-room (c .before .before .before .before .pre .1)
 
 carry-returns : (t : ℕ) → carry-lts.Need-returns (carry-calls t) (carry-at t) carry.Post
 carry-returns t c =
-    let p2 = c .before .before in let p4 = p2 .before .before in let p7 = p4 .before .before .before in
-    put-there (p7 .pre .1 .1) (p4 .if1 .taken) (p2 .take-free .ensures)
+    let after-take = c .before .before in
+    let at-test = after-take .before .before in
+    let at-entry = at-test .before .before .before in
+    put-there (at-entry .pre .1) (at-test .if1 .taken) (after-take .take-free .ensures)
 
 carry-settle-requires : (t : ℕ) → carry-lts.Need-settle-requires (carry-calls t) (carry-at t) carry.Post
 carry-settle-requires t c κs =
-    let p1 = c .before in let p4 = p1 .before .before .before in
-    going-fits (p4 .pre .1 .1) (p1 .if1 .left)
+    let at-test = c .before in
+    let at-entry = at-test .before .before .before in
+    going-fits (at-entry .pre .1) (at-test .if1 .left)
 
 carry-sub-carry : (t : ℕ) → carry-lts.Need-sub-carry (carry-calls t) (carry-at t) carry.Post
 carry-sub-carry t c =
-    let p5 = c .before .before .before .before .before in let p8 = p5 .before .before .before in
-    some-left (p8 .pre .1 .1) (p5 .if1 .left)
+    let at-test = c .before .before .before .before .before in
+    let at-entry = at-test .before .before .before in
+    some-left (at-entry .pre .1) (at-test .if1 .left)
 
 carry-is-left-requires : (t : ℕ) → carry-lts.Need-is-left-requires (carry-calls t) (carry-at t) carry.Post
 carry-is-left-requires t c κs =
-    let p5 = c .before .before .before .before .before in let p8 = p5 .before .before .before in
-    (some-left (p8 .pre .1 .1) (p5 .if1 .left), p8 .pre .1 .0)
+    let at-test = c .before .before .before .before .before in
+    let at-entry = at-test .before .before .before in
+    (some-left (at-entry .pre .1) (at-test .if1 .left), at-entry .pre .1 .few)
 
 carry-carry-requires : (t : ℕ) → carry-lts.Need-carry-requires (carry-calls t) (carry-at t) carry.Post
 carry-carry-requires t c κs =
-    let p1 = c .before in let p5 = p1 .before .before .before .before in let p7 = p5 .before .before in let p10 = p7 .before .before .before in
-    (one-less (p10 .pre .1 .1) (p7 .if1 .left) (p10 .pre .0), (omega (arith, p10 .pre .1 .0), goes-down (p10 .pre .1 .1) (p7 .if1 .left) (p5 .settle .ensures) (p1 .is-left .ensures) (c .link-cell .ensures)))
+    let after-side = c .before in
+    let after-settle = after-side .before .before .before .before in
+    let at-test = after-settle .before .before in
+    let at-entry = at-test .before .before .before in
+    (one-less (at-entry .pre .1) (at-test .if1 .left) (at-entry .pre .0), goes-down (at-entry .pre .1) (at-test .if1 .left) (after-settle .settle .ensures) (after-side .is-left .ensures) (c .link-cell .ensures))
 
 carry-returns-2 : (t : ℕ) → carry-lts.Need-returns-2 (carry-calls t) (carry-at t) carry.Post
 carry-returns-2 t c =
-    let p2 = c .before .before in let p3 = p2 .before in let p4 = p3 .before in let p8 = p4 .before .before .before .before in let p10 = p8 .before .before in let p13 = p10 .before .before .before in
-    gone-down (p13 .pre .1 .1) (p10 .if1 .left) (p8 .settle .ensures) (p4 .is-left .ensures) (p3 .link-cell .ensures) (p2 .carry .ensures)
+    let after-carry = c .before .before in
+    let after-cell = after-carry .before in
+    let after-side = after-cell .before in
+    let after-settle = after-side .before .before .before .before in
+    let at-test = after-settle .before .before in
+    let at-entry = at-test .before .before .before in
+    gone-down (at-entry .pre .1) (at-test .if1 .left) (after-settle .settle .ensures) (after-side .is-left .ensures) (after-cell .link-cell .ensures) (after-carry .carry .ensures)
 
 pub +carry-spec : {M : Type 1} → statement M
 +carry-spec = close μ-carry λ t. carry-lts.spec (carry-calls t) (carry-at t) carry.Post

@@ -1,18 +1,21 @@
--- The pair goes down from the place, and then the count moves.
+-- The pair goes down from the root, and then the count moves.
 use mathlib.Core.Path.{_∙_}
+use native.Mathlib.Omega.{arith}
+use Rattle.down.proofs.Entering.{root-going, entered}
 use borrow.Author.Needs.{needs}
 use Rattle.down.proofs.insert.Statement.{statement}
 use Rattle.down.proofs.insert.Tie as tie
 
 carry-requires : tie.Need-carry-requires
-carry-requires c κs =
-    let p4 = c .before .before .before .before in
-    (p4 .pre .1 .most, p4 .pre .1 .going (p4 .pre .0))
+carry-requires c κs = root-going (c .before .before .before .before .pre) (omega arith)
 
 returns : tie.Need-returns
 returns c =
-    let p2 = c .before .before in let p6 = p2 .before .before .before .before in let p8 = p6 .before .before in let p11 = p8 .before .before .before in
-    p2 .put-count .ensures ∙ rw (p8 .count .ensures) (p11 .pre .1 .whole (p11 .pre .0) _ (p6 .carry .ensures))
+    let after-put = c .before .before in
+    let after-carry = after-put .before .before .before .before in
+    let after-count = after-carry .before .before in
+    let at-entry = after-count .before .before .before in
+    after-put .put-count .ensures ∙ rw (after-count .count .ensures) (entered (at-entry .pre) (omega arith) (after-carry .carry .ensures))
 
 pub insert-spec : {M : Type 1} → statement M
 insert-spec =

@@ -1,7 +1,7 @@
 -- The stores, one after the other.
 use mathlib.Core.Path.{_∙_}
 use lib.ListN.{length-set}
-use Rattle.down.proofs.Carrying.{took}
+use Rattle.down.proofs.Taking.{took}
 use borrow.Author.Needs.{needs}
 use Rattle.down.proofs.take_free.Statement.{statement}
 use Rattle.down.proofs.take_free.Tie as tie

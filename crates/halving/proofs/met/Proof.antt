@@ -1,6 +1,7 @@
--- The invariant: what is left to look for, found, is what was to be found.
+-- The invariant: what is met from the place on is what was to be met. It assumes that the links below lead to a tree of so many levels, and
+-- a level fewer is left at each turn.
 use mathlib.Core.Path.{_≡_, refl, _∙_}
-use native.Mathlib.Omega.{arith}
+use borrow.Author.Needs.{needs}
 use Rattle.trees.specs.Changes.{met}
 use Rattle.pools.specs.Cells.{treeAt}
 use Rattle.kinds.specs.Shape.{stripeOf}
@@ -21,41 +22,53 @@ loop-holds : tie.Need-loop-holds Inv-loop μ-loop
 loop-holds c = (c .before .pre, refl)
 
 pair-requires : tie.Need-pair-requires Inv-loop μ-loop
-pair-requires c κs =
-    let p1 = c .before in
-    there _ _ _ _ 0 (p1 .loop .inv .0) (c .if1 .left)
+pair-requires c κs = there _ _ _ _ 0 (c .before .loop .inv .0) (c .if1 .left)
 
 goes-left-requires : tie.Need-goes-left-requires Inv-loop μ-loop
 goes-left-requires c κs = c .before .before .before .before .loop .inv .0 .low
 
 son-requires : tie.Need-son-requires Inv-loop μ-loop
 son-requires c κs =
-    let p4 = c .before .before .before .before in let p5 = p4 .before in
-    there _ _ _ _ 0 (p5 .loop .inv .0) (p4 .if1 .left)
+    let at-slot = c .before .before .before .before in
+    there _ _ _ _ 0 (at-slot .before .loop .inv .0) (at-slot .if1 .left)
 
 towards-requires : tie.Need-towards-requires Inv-loop μ-loop
 towards-requires c κs = c .before .before .before .before .before .before .loop .inv .0 .low
 
 sub-remaining : tie.Need-sub-remaining Inv-loop μ-loop
-sub-remaining c = let d = deep _ _ _ _ 0 (c .before .before .before .before .before .before .before .loop .inv .0) (c .before .before .before .before .before .before .if1 .left) in omega arith
+sub-remaining c =
+    let at-slot = c .before .before .before .before .before .before in
+    let below = deep _ _ _ _ 0 (at-slot .before .loop .inv .0) (at-slot .if1 .left) in
+    search needs
 
 loop-less : tie.Need-loop-less Inv-loop μ-loop
-loop-less c = let d = deep _ _ _ _ 0 (c .before .before .before .before .before .before .before .loop .inv .0) (c .before .before .before .before .before .before .if1 .left) in omega arith
+loop-less c =
+    let at-slot = c .before .before .before .before .before .before in
+    let below = deep _ _ _ _ 0 (at-slot .before .loop .inv .0) (at-slot .if1 .left) in
+    search needs
 
 loop-again : tie.Need-loop-again Inv-loop μ-loop
 loop-again c =
-    let p1 = c .before in let p2 = p1 .before in let p3 = p2 .before in let p5 = p3 .before .before in let p6 = p5 .before in let p7 = p6 .before in
-    (sought-on _ _ _ _ _ (p7 .loop .inv .0) (p6 .if1 .left) (rw (p5 .pair .ensures) at (p3 .if2 .left)) _ _ _ (p2 .goes-left .ensures) (p1 .son .ensures) (c .towards .ensures), goes-on _ _ _ _ _ (p7 .loop .inv .0) (p6 .if1 .left) (rw (p5 .pair .ensures) at (p3 .if2 .left)) _ _ _ (p2 .goes-left .ensures) (p1 .son .ensures) (c .towards .ensures) ∙ p7 .loop .inv .1)
+    let after-son = c .before in
+    let after-side = after-son .before in
+    let at-x = after-side .before in
+    let at-pair = at-x .before .before in
+    let at-slot = at-pair .before in
+    let turn = at-slot .before .loop .inv in
+    let other = rw (at-pair .pair .ensures) at (at-x .if2 .left) in (
+      sought-on _ _ _ _ _ (turn .0) (at-slot .if1 .left) other _ _ _ (after-side .goes-left .ensures) (after-son .son .ensures) (c .towards .ensures),
+      goes-on _ _ _ _ _ (turn .0) (at-slot .if1 .left) other _ _ _ (after-side .goes-left .ensures) (after-son .son .ensures) (c .towards .ensures) ∙ turn .1,
+    )
 
 returns : tie.Need-returns Inv-loop μ-loop
-returns c =
-    let p1 = c .before in
-    ends-here _ _ _ _ _ (c .if1 .taken) ∙ p1 .loop .inv .1
+returns c = ends-here _ _ _ _ _ (c .if1 .taken) ∙ c .before .loop .inv .1
 
 returns-2 : tie.Need-returns-2 Inv-loop μ-loop
 returns-2 c =
-    let p2 = c .before .before in let p3 = p2 .before in let p4 = p3 .before in
-    hit _ _ _ _ _ (p4 .loop .inv .0) (p3 .if1 .left) (rw (p2 .pair .ensures) at (c .if2 .taken)) ∙ p4 .loop .inv .1
+    let at-pair = c .before .before in
+    let at-slot = at-pair .before in
+    let turn = at-slot .before .loop .inv in
+    hit _ _ _ _ _ (turn .0) (at-slot .if1 .left) (rw (at-pair .pair .ensures) at (c .if2 .taken)) ∙ turn .1
 
 pub met-spec : {M : Type 1} → statement M
 met-spec =

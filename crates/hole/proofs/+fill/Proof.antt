@@ -1,7 +1,8 @@
--- The heir's pair moves up, and the hole goes on to its place.
+-- A slot with no sons is given up; else the heir's pair moves up, and the hole goes on to its place. The levels fall: where there is a son
+-- there is a level below. Each need is one law of Filling.antt.
 use Prim.Native.Nat.{ℕ, _<_}
 use native.Mathlib.Omega.{arith}
-use Rattle.hole.proofs.Filling.{hole-sons, may-release, last-freed, promotes, deeper, next-hole, on-freed}
+use Rattle.hole.proofs.Filling.{hole-sons, may-release, last-freed, promotes, deeper, next-hole, next-freed}
 use borrow.Author.Needs.{needs}
 use borrow.Fn.Kinds.{In}
 use borrow.Fn.PlainCycle.{Measures, is, falls, and}
@@ -37,24 +38,44 @@ fill-release-requires t c κs = may-release (c .before .before .before .before .
 
 fill-returns : (t : ℕ) → fill-lts.Need-returns (fill-calls t) (fill-at t) fill.Post
 fill-returns t c =
-    let p2 = c .before .before in let p4 = p2 .before .before in let p5 = p4 .before in let p9 = p5 .before .before .before .before in
-    last-freed (p9 .pre .1) (p5 .heir .ensures) (p4 .if1 .taken) (p2 .release .ensures)
+    let after-release = c .before .before in
+    let at-test = after-release .before .before in
+    let after-heir = at-test .before in
+    let at-entry = after-heir .before .before .before .before in
+    last-freed (at-entry .pre .1) (after-heir .heir .ensures) (at-test .if1 .taken) (after-release .release .ensures)
 
 fill-promote-requires : (t : ℕ) → fill-lts.Need-promote-requires (fill-calls t) (fill-at t) fill.Post
 fill-promote-requires t c κs =
-    let p1 = c .before in let p2 = p1 .before in let p6 = p2 .before .before .before .before in
-    promotes (p6 .pre .1) (p2 .heir .ensures) (p1 .if1 .left)
+    let at-test = c .before in
+    let after-heir = at-test .before in
+    let at-entry = after-heir .before .before .before .before in
+    promotes (at-entry .pre .1) (after-heir .heir .ensures) (at-test .if1 .left)
 
 fill-sub-fill : (t : ℕ) → fill-lts.Need-sub-fill (fill-calls t) (fill-at t) fill.Post
-fill-sub-fill t c = let d = deeper (c .before .before .before .before .before .before .before .before .before .before .pre .1) (c .before .before .before .before .before .before .heir .ensures) (c .before .before .before .before .before .if1 .left) in omega arith
+fill-sub-fill t c =
+    let at-test = c .before .before .before .before .before in
+    let after-heir = at-test .before in
+    let at-entry = after-heir .before .before .before .before in
+    let below = deeper (at-entry .pre .1) (after-heir .heir .ensures) (at-test .if1 .left) in
+    search needs
 
 fill-fill-requires : (t : ℕ) → fill-lts.Need-fill-requires (fill-calls t) (fill-at t) fill.Post
-fill-fill-requires t c κs = let d = deeper (c .before .before .before .before .before .before .before .before .before .before .pre .1) (c .before .before .before .before .before .before .heir .ensures) (c .before .before .before .before .before .if1 .left) in (omega (arith, c .before .before .before .before .before .before .before .before .before .before .pre .0), next-hole (c .before .before .before .before .before .before .before .before .before .before .pre .1) (c .before .before .before .before .before .before .heir .ensures) (c .before .before .before .before .before .if1 .left) (c .before .before .before .promote .ensures))
+fill-fill-requires t c κs =
+    let after-promote = c .before .before .before in
+    let at-test = after-promote .before .before in
+    let after-heir = at-test .before in
+    let at-entry = after-heir .before .before .before .before in
+    let below = deeper (at-entry .pre .1) (after-heir .heir .ensures) (at-test .if1 .left) in
+    (omega (arith, at-entry .pre .0), next-hole (at-entry .pre .1) (after-heir .heir .ensures) (at-test .if1 .left) (after-promote .promote .ensures))
 
 fill-returns-2 : (t : ℕ) → fill-lts.Need-returns-2 (fill-calls t) (fill-at t) fill.Post
 fill-returns-2 t c =
-    let p2 = c .before .before in let p6 = p2 .before .before .before .before in let p8 = p6 .before .before in let p9 = p8 .before in let p13 = p9 .before .before .before .before in
-    on-freed (p13 .pre .1) (p9 .heir .ensures) (p8 .if1 .left) (p6 .promote .ensures) (p2 .fill .ensures)
+    let after-fill = c .before .before in
+    let after-promote = after-fill .before .before .before .before in
+    let at-test = after-promote .before .before in
+    let after-heir = at-test .before in
+    let at-entry = after-heir .before .before .before .before in
+    next-freed (at-entry .pre .1) (after-heir .heir .ensures) (at-test .if1 .left) (after-promote .promote .ensures) (after-fill .fill .ensures)
 
 pub +fill-spec : {M : Type 1} → statement M
 +fill-spec = close μ-fill λ t. fill-lts.spec (fill-calls t) (fill-at t) fill.Post

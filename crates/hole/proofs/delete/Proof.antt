@@ -1,45 +1,85 @@
--- A removal from the root, and the count less one.
-use native.Mathlib.Omega.{arith}
-use Rattle.hole.proofs.Deletion.{looking-root, some-counted, deletes-done, deletes-missing, deletes-other}
+-- Each way out is one law of Deletion.antt, about what the search met: the place is empty, holds another y, or holds the pair.
+use Rattle.way.proofs.Ways.{place-there, slot-fits}
+use Rattle.hole.proofs.Deletion.{ends-missing, hole-there, ends-other, some-counted, ends-done}
 use borrow.Author.Needs.{needs}
 use Rattle.hole.proofs.delete.Statement.{statement}
 use Rattle.hole.proofs.delete.Tie as tie
 
-remove-requires : tie.Need-remove-requires
-remove-requires c κs = looking-root (c .before .before .pre)
+mul-slot : tie.Need-mul-slot
+mul-slot c = let inside = place-there (c .before .before .before .pre) (c .find .ensures .way) .inside in search needs
 
-sub-left : tie.Need-sub-left
-sub-left c = let h = some-counted (c .before .before .before .before .before .before .before .before .before .pre) (c .before .before .before .before .before .before .remove .ensures) (c .before .before .enum-told .given .1) (c .count .ensures) in omega arith
+slice-read-slot : tie.Need-slice-read-slot
+slice-read-slot c =
+    let after-find = c .before in
+    let at-entry = after-find .before .before .before in
+    place-there (at-entry .pre) (after-find .find .ensures .way) .inside
 
 returns : tie.Need-returns
 returns c =
-    let p2 = c .before .before in let p4 = p2 .before .before in let p6 = p4 .before .before in let p10 = p6 .before .before .before .before in let p13 = p10 .before .before .before in
-    deletes-done (p13 .pre) (p10 .remove .ensures) (p6 .enum-told .given .1) (p4 .count .ensures) (p2 .put-count .ensures)
+    let after-find = c .before .before in
+    let at-entry = after-find .before .before .before in
+    ends-missing (at-entry .pre) _ (after-find .find .ensures) (c .if1 .taken)
+
+pair-requires : tie.Need-pair-requires
+pair-requires c κs =
+    let at-slot = c .before in
+    let after-find = at-slot .before .before in
+    let at-entry = after-find .before .before .before in
+    slot-fits (at-entry .pre) (after-find .find .ensures .way) (at-slot .if1 .left)
 
 returns-2 : tie.Need-returns-2
 returns-2 c =
-    let p4 = c .before .before .before .before in let p7 = p4 .before .before .before in
-    deletes-missing (p7 .pre) (p4 .remove .ensures) (c .enum-told2 .given .1)
+    let at-pair = c .before .before .before in
+    let at-slot = at-pair .before .before in
+    let after-find = at-slot .before .before in
+    let at-entry = after-find .before .before .before in
+    ends-other (at-entry .pre) _ (after-find .find .ensures) (at-slot .if1 .left) (at-pair .pair .ensures) (c .if2 .taken)
+
+fill-requires : tie.Need-fill-requires
+fill-requires c κs =
+    let at-slot = c .before .before .before .before .before .before in
+    let after-find = at-slot .before .before in
+    let at-entry = after-find .before .before .before in
+    hole-there (at-entry .pre) (after-find .find .ensures) (at-slot .if1 .left)
+
+sub-left : tie.Need-sub-left
+sub-left c =
+    let after-fill = c .before .before .before .before in
+    let at-y = after-fill .before .before in
+    let at-pair = at-y .before .before .before in
+    let at-slot = at-pair .before .before in
+    let after-find = at-slot .before .before in
+    let at-entry = after-find .before .before .before in
+    let some = some-counted (at-entry .pre) _ (after-find .find .ensures) (at-slot .if1 .left) (at-pair .pair .ensures) (at-y .if2 .left) (after-fill .fill .ensures) (c .count .ensures) in
+    search needs
 
 returns-3 : tie.Need-returns-3
 returns-3 c =
-    let p4 = c .before .before .before .before in let p7 = p4 .before .before .before in
-    deletes-other (p7 .pre) (p4 .remove .ensures) (c .enum-told3 .given .1)
+    let after-put = c .before .before in
+    let after-count = after-put .before .before in
+    let after-fill = after-count .before .before .before .before in
+    let at-y = after-fill .before .before in
+    let at-pair = at-y .before .before .before in
+    let at-slot = at-pair .before .before in
+    let after-find = at-slot .before .before in
+    let at-entry = after-find .before .before .before in
+    ends-done (at-entry .pre) _ (after-find .find .ensures) (at-slot .if1 .left) (at-pair .pair .ensures) (at-y .if2 .left) (after-fill .fill .ensures) (after-count .count .ensures) (after-put .put-count .ensures)
 
 pub delete-spec : {M : Type 1} → statement M
 delete-spec =
     tie.close
     (tie.spec
-    remove-requires
+    (λ c κs. search needs)
+    mul-slot
+    slice-read-slot
     (λ c. search needs)
+    returns
+    pair-requires
+    (λ c. search needs)
+    returns-2
+    fill-requires
     (λ c κs. search needs)
     sub-left
     (λ c κs. search needs)
-    (λ c. search needs)
-    (λ c. search needs)
-    (λ c. search needs)
-    returns
-    (λ c. search needs)
-    returns-2
     (λ c. search needs)
     returns-3)

@@ -2,7 +2,7 @@
 use mathlib.Core.Path.{_∙_}
 use native.Mathlib.Omega.{arith}
 use lib.ListN.{length-set}
-use Rattle.hole.proofs.Holes.{released-by}
+use Rattle.hole.proofs.Filling.{released-by}
 use borrow.Author.Needs.{needs}
 use Rattle.hole.proofs.release.Statement.{statement}
 use Rattle.hole.proofs.release.Tie as tie

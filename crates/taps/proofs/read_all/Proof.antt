@@ -1,15 +1,17 @@
--- The invariant: no slice changes its length, and the kept bytes lie within the input.
-use Prim.Native.Nat.{ℕ, _≤_}
+-- The invariant: the pool is sound, no slice changes its length, and the kept bytes lie within the input.
 use mathlib.Core.Path.{_≡_, refl, _∙_}
+use mathlib.Core.List.{List}
+use Prim.Native.Nat.{ℕ, _≤_}
+use Rattle.pools.specs.Sound.{Sound}
 use native.Mathlib.Omega.{arith}
 use lib.ListN.{length}
 use borrow.Author.Needs.{needs}
-use mathlib.Core.List.{List}
 use Rattle.taps.proofs.read_all.Statement.{statement}
 use Rattle.taps.proofs.read_all.Tie as tie
 
--- what stays so at each turn: no slice changes its length, and the kept bytes lie within the input
+-- what stays so at each turn
 record Within (cells₀ room₀ input₀ output₀ cells room input output : List ℕ) (kept : ℕ) : Type 0 where
+  sound : Sound cells
   kept-within : kept ≤ length input
   cells-same : length cells ≡ length cells₀
   room-same : length room ≡ length room₀
@@ -23,38 +25,52 @@ abbrev μ-loop : tie.MeasureT-loop
 μ-loop cells₀ room₀ input₀ output₀ kept₀ left₀ cells room input output kept left = left
 
 loop-holds : tie.Need-loop-holds Inv-loop μ-loop
-loop-holds c = record { kept-within = omega arith; cells-same = refl; room-same = refl; input-same = refl; output-same = refl }
+loop-holds c = record { sound = c .before .before .before .before .pre; kept-within = omega arith; cells-same = refl; room-same = refl; input-same = refl; output-same = refl }
 
 turn-requires : tie.Need-turn-requires Inv-loop μ-loop
-turn-requires c κs = c .before .before .before .before .before .loop .inv .kept-within
+turn-requires c κs =
+    let at-loop = c .before .before .before .before .before in
+    (at-loop .loop .inv .sound, at-loop .loop .inv .kept-within)
 
 same-length : tie.Need-same-length Inv-loop μ-loop
 same-length c =
-    let p10 = c .before .before .before .before .before .before .before .before .before .before in let p16 = p10 .before .before .before .before .before .before in
-    p10 .turn .kept .0 ∙ p16 .loop .inv .cells-same
+    let at-turn = c .before .before .before .before .before .before .before .before .before .before in
+    let at-loop = at-turn .before .before .before .before .before .before in
+    at-turn .turn .kept .0 ∙ at-loop .loop .inv .cells-same
 
 same-length-2 : tie.Need-same-length-2 Inv-loop μ-loop
 same-length-2 c =
-    let p10 = c .before .before .before .before .before .before .before .before .before .before in let p16 = p10 .before .before .before .before .before .before in
-    p10 .turn .kept .1 .0 ∙ p16 .loop .inv .room-same
+    let at-turn = c .before .before .before .before .before .before .before .before .before .before in
+    let at-loop = at-turn .before .before .before .before .before .before in
+    at-turn .turn .kept .1 .0 ∙ at-loop .loop .inv .room-same
 
 same-length-3 : tie.Need-same-length-3 Inv-loop μ-loop
 same-length-3 c =
-    let p10 = c .before .before .before .before .before .before .before .before .before .before in let p16 = p10 .before .before .before .before .before .before in
-    p10 .turn .kept .1 .1 .0 ∙ p16 .loop .inv .input-same
+    let at-turn = c .before .before .before .before .before .before .before .before .before .before in
+    let at-loop = at-turn .before .before .before .before .before .before in
+    at-turn .turn .kept .1 .1 .0 ∙ at-loop .loop .inv .input-same
 
 same-length-4 : tie.Need-same-length-4 Inv-loop μ-loop
 same-length-4 c =
-    let p10 = c .before .before .before .before .before .before .before .before .before .before in let p16 = p10 .before .before .before .before .before .before in
-    p10 .turn .kept .1 .1 .1 .1 .0 ∙ p16 .loop .inv .output-same
+    let at-turn = c .before .before .before .before .before .before .before .before .before .before in
+    let at-loop = at-turn .before .before .before .before .before .before in
+    at-turn .turn .kept .1 .1 .1 .1 .0 ∙ at-loop .loop .inv .output-same
 
 returns : tie.Need-returns Inv-loop μ-loop
 returns c = c .before .before .before .before .before .before .before .before .before .before .turn .ensures
 
 loop-again : tie.Need-loop-again Inv-loop μ-loop
 loop-again c =
-    let p10 = c .before .before .before .before .before .before .before .before .before .before in let p16 = p10 .before .before .before .before .before .before in
-    record { kept-within = p10 .turn .ensures; cells-same = p10 .turn .kept .0 ∙ p16 .loop .inv .cells-same; room-same = p10 .turn .kept .1 .0 ∙ p16 .loop .inv .room-same; input-same = p10 .turn .kept .1 .1 .0 ∙ p16 .loop .inv .input-same; output-same = p10 .turn .kept .1 .1 .1 .1 .0 ∙ p16 .loop .inv .output-same }
+    let at-turn = c .before .before .before .before .before .before .before .before .before .before in
+    let at-loop = at-turn .before .before .before .before .before .before in
+    record {
+      sound = at-turn .turn .ensures .0;
+      kept-within = at-turn .turn .ensures .1;
+      cells-same = at-turn .turn .kept .0 ∙ at-loop .loop .inv .cells-same;
+      room-same = at-turn .turn .kept .1 .0 ∙ at-loop .loop .inv .room-same;
+      input-same = at-turn .turn .kept .1 .1 .0 ∙ at-loop .loop .inv .input-same;
+      output-same = at-turn .turn .kept .1 .1 .1 .1 .0 ∙ at-loop .loop .inv .output-same;
+    }
 
 same-length-5 : tie.Need-same-length-5 Inv-loop μ-loop
 same-length-5 c = c .before .loop .inv .cells-same
@@ -69,7 +85,9 @@ same-length-8 : tie.Need-same-length-8 Inv-loop μ-loop
 same-length-8 c = c .before .loop .inv .output-same
 
 returns-2 : tie.Need-returns-2 Inv-loop μ-loop
-returns-2 c = c .before .loop .inv .kept-within
+returns-2 c =
+    let at-loop = c .before in
+    (at-loop .loop .inv .sound, at-loop .loop .inv .kept-within)
 
 pub read-all-spec : {M : Type 1} → statement M
 read-all-spec =

@@ -6,7 +6,7 @@ use Rattle.taps.proofs.run.Statement.{statement}
 use Rattle.taps.proofs.run.Tie as tie
 
 slice-aggregate-answer : tie.Need-slice-aggregate-answer
-slice-aggregate-answer c = sym (length-take-le _ _ (c .before .before .before .before .before .before .before .before .before .before .before .before .read-all .ensures))
+slice-aggregate-answer c = sym (length-take-le _ _ (c .before .before .before .before .before .before .before .before .before .before .before .before .read-all .ensures .1))
 
 pub run-spec : {M : Type 1} → statement M
 run-spec =

@@ -1,5 +1,5 @@
 -- The answer is the promised one, and it is told.
-use Rattle.drecerunya.proofs.Telling.{tells}
+use Rattle.told.proofs.Telling.{tells}
 use borrow.Author.Needs.{needs}
 use Rattle.drecerunya.proofs.ask.drecerunya_earliest_start.Statement.{statement}
 use Rattle.drecerunya.proofs.ask.drecerunya_earliest_start.Tie as tie

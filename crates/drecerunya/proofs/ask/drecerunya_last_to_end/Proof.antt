@@ -1,5 +1,5 @@
 -- The answer is the promised one, and it is told.
-use Rattle.drecerunya.proofs.Telling.{tells}
+use Rattle.told.proofs.Telling.{tells}
 use borrow.Author.Needs.{needs}
 use Rattle.drecerunya.proofs.ask.drecerunya_last_to_end.Statement.{statement}
 use Rattle.drecerunya.proofs.ask.drecerunya_last_to_end.Tie as tie

@@ -1,11 +1,11 @@
 -- The cells and the answer are the promised ones, and the answer is told.
-use Rattle.drecerunya.proofs.Telling.{leaves-told}
+use Rattle.told.proofs.Telling.{tells}
 use borrow.Author.Needs.{needs}
 use Rattle.drecerunya.proofs.list.drecerunya_list_covers.Statement.{statement}
 use Rattle.drecerunya.proofs.list.drecerunya_list_covers.Tie as tie
 
 returns : tie.Need-returns
-returns c = leaves-told (c .before .before .before .before .list-covers .ensures) (c .tell .ensures)
+returns c = tells (c .before .before .before .before .list-covers .ensures) (c .tell .ensures)
 
 pub drecerunya-list-covers-spec : {M : Type 1} → statement M
 drecerunya-list-covers-spec = tie.close (tie.spec (λ c κs. search needs) (λ c κs. search needs) (λ c. search needs) returns)

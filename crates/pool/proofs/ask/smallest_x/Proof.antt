@@ -1,38 +1,25 @@
 -- The verdict on the pool decides.
-use Rattle.pool.specs.Asking.{smallestXAnswer}
-use Rattle.sound.proofs.Lines.{health-sound, answer-odd, answer-ill}
+use Rattle.sound.proofs.Lines.{verdict-sound, entry-passed, entry-refused}
+use Rattle.answers.specs.Promises.{smallestXAsked}
 use borrow.Author.Needs.{needs}
 use Rattle.pool.proofs.ask.smallest_x.Statement.{statement}
 use Rattle.pool.proofs.ask.smallest_x.Tie as tie
 
-smallest-x-sound-requires : tie.Need-smallest-x-sound-requires
-smallest-x-sound-requires c κs =
-    let p2 = c .before .before in
-    health-sound _ (p2 .health-of .ensures) (c .enum-told .given .1)
+returns : tie.Need-returns
+returns c =
+    let at-if1 = c .before in
+    let at-verdict = at-if1 .before in
+    entry-refused _ (at-verdict .verdict .ensures) (smallestXAsked _ _) (at-if1 .if1 .taken) (c .refused .ensures)
+
+smallest-x-requires : tie.Need-smallest-x-requires
+smallest-x-requires c κs = verdict-sound _ (c .before .verdict .ensures) (c .if1 .left)
 
 returns-2 : tie.Need-returns-2
-unfolding smallestXAnswer
 returns-2 c =
-    let p1 = c .before in let p3 = p1 .before .before in
-    answer-ill _ (p3 .health-of .ensures) _ _ (p1 .enum-told2 .given .1) (c .refused .ensures)
-
-returns-3 : tie.Need-returns-3
-unfolding smallestXAnswer
-returns-3 c =
-    let p1 = c .before in let p3 = p1 .before .before in
-    answer-odd _ (p3 .health-of .ensures) _ _ (p1 .enum-told3 .given .1) (c .refused2 .ensures)
+    let at-if1 = c .before in
+    let at-verdict = at-if1 .before in
+    entry-passed _ (at-verdict .verdict .ensures) (at-if1 .if1 .left) (c .smallest-x .ensures)
 
 pub smallest-x-spec : {M : Type 1} → statement M
 smallest-x-spec =
-    tie.close
-    (tie.spec
-    (λ c κs. search needs)
-    (λ c. search needs)
-    smallest-x-sound-requires
-    (λ c. search needs)
-    (λ c κs. search needs)
-    (λ c. search needs)
-    (λ c κs. search needs)
-    (λ c. search needs)
-    returns-2
-    returns-3)
+    tie.close (tie.spec (λ c κs. search needs) (λ c κs. search needs) returns smallest-x-requires returns-2)

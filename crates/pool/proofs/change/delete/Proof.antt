@@ -1,4 +1,4 @@
--- The answer is that of the code.
+-- The code as an answer.
 use borrow.Author.Needs.{needs}
 use Rattle.pool.proofs.change.delete.Statement.{statement}
 use Rattle.pool.proofs.change.delete.Tie as tie

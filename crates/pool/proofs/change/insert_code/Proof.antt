@@ -1,33 +1,27 @@
 -- The verdict on the pool decides.
-use Rattle.sound.proofs.Lines.{health-sound}
-use Rattle.pool.proofs.Entries.{insert-odd, insert-ill}
+use Rattle.sound.proofs.Lines.{verdict-sound, entry-passed, entry-ended}
+use Rattle.answers.specs.Promises.{insertion}
 use borrow.Author.Needs.{needs}
 use Rattle.pool.proofs.change.insert_code.Statement.{statement}
 use Rattle.pool.proofs.change.insert_code.Tie as tie
 
-insert-sound-requires : tie.Need-insert-sound-requires
-insert-sound-requires c κs =
-    let p1 = c .before in let p3 = p1 .before .before in
-    health-sound _ (p3 .health-of .ensures) (p1 .enum-told .given .1)
+returns : tie.Need-returns
+returns c = entry-ended _ (c .before .verdict .ensures) (insertion _ _) (c .if1 .taken)
+
+insert-requires : tie.Need-insert-requires
+insert-requires c κs =
+    let at-if1 = c .before in
+    let at-verdict = at-if1 .before in
+    verdict-sound _ (at-verdict .verdict .ensures) (at-if1 .if1 .left)
 
 returns-2 : tie.Need-returns-2
-returns-2 c = insert-ill _ _ (c .before .before .health-of .ensures) (c .enum-told2 .given .1)
-
-returns-3 : tie.Need-returns-3
-returns-3 c = insert-odd _ _ (c .before .before .health-of .ensures) (c .enum-told3 .given .1)
+returns-2 c =
+    let at-insert = c .before .before in
+    let at-if1 = at-insert .before .before in
+    let at-verdict = at-if1 .before in
+    entry-passed _ (at-verdict .verdict .ensures) (at-if1 .if1 .left) (at-insert .insert .ensures .keeps)
 
 pub insert-code-spec : {M : Type 1} → statement M
 insert-code-spec =
     tie.close
-    (tie.spec
-    (λ c κs. search needs)
-    (λ c. search needs)
-    insert-sound-requires
-    (λ c. search needs)
-    (λ c. search needs)
-    (λ c. search needs)
-    (λ c. search needs)
-    (λ c. search needs)
-    returns-2
-    (λ c. search needs)
-    returns-3)
+    (tie.spec (λ c κs. search needs) (λ c. search needs) returns insert-requires (λ c. search needs) returns-2)

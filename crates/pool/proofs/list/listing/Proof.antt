@@ -1,39 +1,30 @@
 -- The verdict on the pool decides.
-use Rattle.pool.specs.Asking.{listingLeft}
-use Rattle.sound.proofs.Lines.{health-sound, left-odd, left-ill}
+use Rattle.sound.proofs.Lines.{verdict-sound, entry-passed, entry-refused}
+use Rattle.answers.specs.Promises.{listingAsked}
 use borrow.Author.Needs.{needs}
 use Rattle.pool.proofs.list.listing.Statement.{statement}
 use Rattle.pool.proofs.list.listing.Tie as tie
 
-listing-sound-requires : tie.Need-listing-sound-requires
-listing-sound-requires c κs =
-    let p1 = c .before in let p3 = p1 .before .before in
-    health-sound _ (p3 .health-of .ensures) (p1 .enum-told .given .1)
+returns : tie.Need-returns
+returns c =
+    let at-if1 = c .before in
+    let at-verdict = at-if1 .before in
+    entry-refused _ (at-verdict .verdict .ensures) (listingAsked _ _ _) (at-if1 .if1 .taken) (c .refused .ensures)
+
+listing-requires : tie.Need-listing-requires
+listing-requires c κs =
+    let at-if1 = c .before in
+    let at-verdict = at-if1 .before in
+    verdict-sound _ (at-verdict .verdict .ensures) (at-if1 .if1 .left)
 
 returns-2 : tie.Need-returns-2
-unfolding listingLeft
 returns-2 c =
-    let p1 = c .before in let p3 = p1 .before .before in
-    left-ill _ (p3 .health-of .ensures) _ _ _ (p1 .enum-told2 .given .1) (c .refused .ensures)
-
-returns-3 : tie.Need-returns-3
-unfolding listingLeft
-returns-3 c =
-    let p1 = c .before in let p3 = p1 .before .before in
-    left-odd _ (p3 .health-of .ensures) _ _ _ (p1 .enum-told3 .given .1) (c .refused2 .ensures)
+    let at-listing = c .before .before in
+    let at-if1 = at-listing .before .before in
+    let at-verdict = at-if1 .before in
+    entry-passed _ (at-verdict .verdict .ensures) (at-if1 .if1 .left) (at-listing .listing .ensures)
 
 pub listing-spec : {M : Type 1} → statement M
 listing-spec =
     tie.close
-    (tie.spec
-    (λ c κs. search needs)
-    (λ c. search needs)
-    listing-sound-requires
-    (λ c. search needs)
-    (λ c κs. search needs)
-    (λ c. search needs)
-    (λ c κs. search needs)
-    (λ c. search needs)
-    (λ c. search needs)
-    returns-2
-    returns-3)
+    (tie.spec (λ c κs. search needs) (λ c κs. search needs) returns listing-requires (λ c. search needs) returns-2)

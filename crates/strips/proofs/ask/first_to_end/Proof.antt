@@ -1,23 +1,25 @@
--- The slot decides; then the question.
-use Rattle.strips.proofs.Tabled.{slot-fits, first-refused, first-asked}
+-- The verdict on the pool decides.
+use Rattle.sound.proofs.Lines.{verdict-sound, entry-passed, entry-refused}
+use Rattle.answers.specs.Promises.{firstToEnd}
 use borrow.Author.Needs.{needs}
 use Rattle.strips.proofs.ask.first_to_end.Statement.{statement}
 use Rattle.strips.proofs.ask.first_to_end.Tie as tie
 
 returns : tie.Need-returns
 returns c =
-    let p1 = c .before in let p2 = p1 .before in
-    first-refused _ _ _ (p2 .over .ensures) _ (p1 .if1 .taken) (c .refuse .ensures)
+    let at-if1 = c .before in
+    let at-verdict = at-if1 .before in
+    entry-refused _ (at-verdict .verdict .ensures) (firstToEnd _ _) (at-if1 .if1 .taken) (c .refused .ensures)
 
-mul-smallest-x : tie.Need-mul-smallest-x
-mul-smallest-x c = let f = slot-fits (c .before .before .before .args .u) _ (c .before .over .ensures) (c .if1 .left) in search needs
+first-to-end-requires : tie.Need-first-to-end-requires
+first-to-end-requires c κs = verdict-sound _ (c .before .verdict .ensures) (c .if1 .left)
 
 returns-2 : tie.Need-returns-2
 returns-2 c =
-    let p1 = c .before in let p2 = p1 .before in
-    first-asked _ _ _ (p2 .over .ensures) _ (p1 .if1 .left) (c .smallest-x .ensures)
+    let at-if1 = c .before in
+    let at-verdict = at-if1 .before in
+    entry-passed _ (at-verdict .verdict .ensures) (at-if1 .if1 .left) (c .first-to-end .ensures)
 
 pub first-to-end-spec : {M : Type 1} → statement M
 first-to-end-spec =
-    tie.close
-    (tie.spec (λ c κs. search needs) (λ c κs. search needs) returns mul-smallest-x (λ c κs. search needs) returns-2)
+    tie.close (tie.spec (λ c κs. search needs) (λ c κs. search needs) returns first-to-end-requires returns-2)

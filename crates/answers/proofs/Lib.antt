@@ -1,0 +1,6 @@
+-- The laws behind the calls on a checked pool, a way out at a time.
+pub mod Asked
+pub mod Shapes
+pub mod Changed
+pub mod Saved
+pub mod Ways

@@ -1,0 +1,2 @@
+-- The laws on what a line prints.
+pub mod Answering

@@ -1,0 +1,12 @@
+-- A row of one number.
+use Rattle.text.specs.Text.{row}
+use borrow.Author.Needs.{needs}
+use Rattle.lines.proofs.put_code.Statement.{statement}
+use Rattle.lines.proofs.put_code.Tie as tie
+
+returns : tie.Need-returns
+unfolding row
+returns c = c .before .before .put-number .ensures
+
+pub put-code-spec : {M : Type 1} → statement M
+put-code-spec = tie.close (tie.spec (λ c κs. search needs) (λ c. search needs) returns)

@@ -1,0 +1,29 @@
+-- Five numbers, three of them a strip's.
+use native.Mathlib.Omega.{arith}
+use Rattle.text.proofs.Printing.{room-behind, room-behind-strip}
+use Rattle.lines.proofs.Answering.{found-put}
+use borrow.Author.Needs.{needs}
+use Rattle.lines.proofs.put_found.Statement.{statement}
+use Rattle.lines.proofs.put_found.Tie as tie
+
+put-strip-requires : tie.Need-put-strip-requires
+put-strip-requires c κs = room-behind _ _ _ _ _ _ 33 (c .before .before .before .put-number .ensures) (omega (arith, c .before .before .before .before .before .before .before .pre))
+
+put-number-requires-2 : tie.Need-put-number-requires-2
+put-number-requires-2 c κs = let h = room-behind _ _ _ _ _ _ 44 (c .before .before .before .before .before .before .before .put-number .ensures) (omega (arith, c .before .before .before .before .before .before .before .before .before .before .before .pre)) in room-behind-strip _ _ _ _ _ _ _ 11 (c .before .before .before .put-strip .ensures) (omega (arith, h))
+
+returns : tie.Need-returns
+returns c =
+    let p2 = c .before .before in let p6 = p2 .before .before .before .before in let p10 = p6 .before .before .before .before in let p12 = p10 .before .before in
+    found-put _ _ (p12 .numbers .ensures) (p10 .put-number .ensures) (p6 .put-strip .ensures) (p2 .put-number2 .ensures)
+
+pub put-found-spec : {M : Type 1} → statement M
+put-found-spec =
+    tie.close
+    (tie.spec
+    (λ c κs. search needs)
+    (λ c κs. search needs)
+    put-strip-requires
+    put-number-requires-2
+    (λ c. search needs)
+    returns)

@@ -1,0 +1,39 @@
+-- Three numbers, and the rows.
+use Prim.Native.Nat.{_+_, _*_, _/_}
+use native.Mathlib.Omega.{arith}
+use lib.ListN.{length}
+use Rattle.text.proofs.Printing.{room-behind}
+use Rattle.lines.proofs.Answering.{listed-put}
+use borrow.Author.Needs.{needs}
+use Rattle.lines.proofs.put_listed.Statement.{statement}
+use Rattle.lines.proofs.put_listed.Tie as tie
+
+put-number-requires-2 : tie.Need-put-number-requires-2
+put-number-requires-2 c κs = room-behind _ _ _ _ _ _ 11 (c .before .before .before .put-number .ensures) (omega (arith, c .before .before .before .before .before .before .before .before .pre))
+
+put-number-requires-3 : tie.Need-put-number-requires-3
+put-number-requires-3 c κs = let h = room-behind _ _ _ _ _ _ 22 (c .before .before .before .before .before .before .before .put-number .ensures) (omega (arith, c .before .before .before .before .before .before .before .before .before .before .before .before .pre)) in room-behind _ _ _ _ _ _ 11 (c .before .before .before .put-number2 .ensures) (omega (arith, h))
+
+put-matches-requires : tie.Need-put-matches-requires
+put-matches-requires c κs =
+    let k = 33 * (length (c .before .before .before .before .before .before .before .before .before .before .before .before .before .before .before .before .args .room .now) / 2) in
+    let g = room-behind _ _ _ _ _ _ (22 + k) (c .before .before .before .before .before .before .before .before .before .before .before .put-number .ensures) (omega (arith, c .before .before .before .before .before .before .before .before .before .before .before .before .before .before .before .before .pre)) in
+    let h = room-behind _ _ _ _ _ _ (11 + k) (c .before .before .before .before .before .before .before .put-number2 .ensures) (omega (arith, g)) in
+    room-behind _ _ _ _ _ _ k (c .before .before .before .put-number3 .ensures) (omega (arith, h))
+
+returns : tie.Need-returns
+returns c =
+    let p2 = c .before .before in let p6 = p2 .before .before .before .before in let p10 = p6 .before .before .before .before in let p14 = p10 .before .before .before .before in let p16 = p14 .before .before in
+    listed-put _ _ (p16 .numbers .ensures) _ (p14 .put-number .ensures) (p10 .put-number2 .ensures) (p6 .put-number3 .ensures) (p2 .put-matches .ensures)
+
+pub put-listed-spec : {M : Type 1} → statement M
+put-listed-spec =
+    tie.close
+    (tie.spec
+    (λ c κs. search needs)
+    (λ c κs. search needs)
+    put-number-requires-2
+    put-number-requires-3
+    put-matches-requires
+    (λ c. search needs)
+    returns)

@@ -1,0 +1,13 @@
+-- The sum of the definition, turned round so that it cannot wrap.
+use Rattle.lines.proofs.Answering.{few-bytes, enough-bytes}
+use Rattle.lines.proofs.too_short.Statement.{statement}
+use Rattle.lines.proofs.too_short.Tie as tie
+
+returns : tie.Need-returns
+returns c = few-bytes _ _ (c .if1 .taken)
+
+returns-2 : tie.Need-returns-2
+returns-2 c = enough-bytes _ _ (c .if1 .left)
+
+pub too-short-spec : {M : Type 1} → statement M
+too-short-spec = tie.close (tie.spec returns returns-2)
