@@ -19,7 +19,7 @@ pub record Prints (d : Done) (o c room o′ : List ℕ) (r : ℕ) : Type 0 where
   pub put : Puts o 0 (d .bytes) o′ r
   pub within : r ≤ length o
 
--- what refuses a line before its call: that it asks for nothing, or else the verdict on the pool
+-- what refuses a line before its call: that it is malformed, or else the verdict on the pool; 0 where nothing does
 unfoldable pub refusalOf : (c : List ℕ) → Asked → ℕ
 refusalOf c (Open start end number) = verdictOf c
 refusalOf c (Close start end number) = verdictOf c

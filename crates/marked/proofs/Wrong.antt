@@ -1,6 +1,6 @@
 -- A program that keeps a promise is none of 01's five wrong programs. What it answers is the promise's, so each law is one of the promise.
 use Prim.Native.Nat.{ℕ, suc, _+_, _*_}
-use mathlib.Core.Path.{_≡_, refl}
+use mathlib.Core.Path.{_≡_, refl, _∙_}
 use mathlib.Core.Logic.{inl, inr}
 use mathlib.Core.Bool.{true, false}
 use mathlib.Core.List.{List, [], _∷_}
@@ -24,7 +24,7 @@ use Rattle.answers.specs.Promises.{insertion, deletion, smallestXAsked, largest
 use Rattle.runs.specs.Calls.{Call, set-up, check, insert, delete, smallest-x, largest-x, smallest-y, list, opens, closes, first, last, earliest, covers, meets, contains, save, promised, lentBy, play, SmallX, Each}
 use Rattle.runs.specs.Playing.{playAll, plainlyAll, Same, Agrees}
 use Rattle.runs.proofs.Played.{plays-all}
-use Rattle.marked.specs.Wrong.{isRefusal, visitsOf, Program, Kind, kindOf, writesOf, Keeps, KeepsAll, AlwaysRefuses, OneAnswer, Idle, Pretends, MadeUp, Wrong, refuses, constant, idle, pretends, made-up, Served, runs}
+use Rattle.marked.specs.Wrong.{isRefusal, visitsOf, Program, Kind, kindOf, writesOf, KeepsTo, KeepsAll, AlwaysRefuses, OneAnswer, Idle, Pretends, MadeUp, Wrong, refuses, constant, idle, pretends, made-up, Served, runs}
 use Rattle.marked.specs.Samples.{sample}
 use Rattle.marked.proofs.Samples.{shown}
 
@@ -72,6 +72,27 @@ serves c (meets u v out) = refl
 serves c (contains u v out) = refl
 serves c (save bytes) = refl
 
+-- and its visits are those of its walk
+visits-are : (c : List ℕ) (k : Call) → promised c k .made .answer .visits ≡ visitsOf c k
+unfolding promised setUp check-first.check insertion plainInsert deletion plainDelete smallestXAsked plainSmallestX largestXAsked plainLargestX smallestYAsked plainSmallestY listingAsked plainListing opening plainOpen closing plainClose firstToEnd plainFirst lastToEnd plainLast earliestStart plainEarliest listCovers plainCovers listMeets plainMeets listContains plainContains saved plainSave
+visits-are c set-up = refl
+visits-are c check = refl
+visits-are c (insert p) = refl
+visits-are c (delete p) = refl
+visits-are c (smallest-x q) = refl
+visits-are c (largest-x q) = refl
+visits-are c (smallest-y x0 x1) = refl
+visits-are c (list q out) = refl
+visits-are c (opens n) = refl
+visits-are c (closes n) = refl
+visits-are c (first u) = refl
+visits-are c (last u e) = refl
+visits-are c (earliest u v) = refl
+visits-are c (covers u out) = refl
+visits-are c (meets u v out) = refl
+visits-are c (contains u v out) = refl
+visits-are c (save bytes) = refl
+
 -- what a table gives and does not refuse is what it makes
 table-made : (ls : List Line) (c out : List ℕ) (made : Result) → isRefusal (byLines ls c out made .answer .outcome) ≡ false → byLines ls c out made ≡ made
 unfolding byLines
@@ -93,9 +114,9 @@ module _ (c : List ℕ) (k : Call) where
   unfolding five
   walk-visits f =
       rw (table-made (promised c k .lines) c (lentBy k) (promised c k .made) f)
-      (served-visits (promised c k .made .answer .outcome) (promised c k .made .answer .visits) (serves c k))
+      (served-visits (promised c k .made .answer .outcome) (promised c k .made .answer .visits) (serves c k) ∙ visits-are c k)
 
-module _ (K : Kind) (g : Program) (keeps : Keeps K g) where
+module _ (K : Kind) (g : Program) (keeps : KeepsTo K g) where
   -- law: what no line of the call's table refuses it answers with 0, 8 or 10
   pub serves-unrefused : (t : ℕ) (c : List ℕ) (k : Call) → kindOf k ≡ K → NoLine (promised c k .lines) → Served (five (g t c k .answer) .code)
   serves-unrefused t c k e n = rw (keeps t c k e) (accepted-code c k n)

@@ -1,5 +1,5 @@
 -- Programs that are tried against the promises: what it is to keep one, and 01's five wrong programs.
-use Prim.Native.Nat.{ℕ, suc}
+use Prim.Native.Nat.{ℕ, suc, _+_, _*_}
 use mathlib.Core.Path.{_≡_}
 use mathlib.Core.Logic.{_≢_, _⊎_}
 use mathlib.Core.Bool.{Bool, true, false}
@@ -9,7 +9,11 @@ use Rattle.kinds.specs.declared.Outcome.{Outcome}
 use Rattle.kinds.specs.declared.Outcome.the-variants.{Found, Nothing, Listed, Refused}
 use Rattle.kinds.specs.Answer.{five}
 use Rattle.kinds.specs.Promise.{Result}
-use Rattle.runs.specs.Calls.{Call, set-up, check, insert, delete, smallest-x, largest-x, smallest-y, list, opens, closes, first, last, earliest, covers, meets, contains, save, promised, lentBy, play}
+use Rattle.kinds.specs.Stripe.{rootStripe}
+use Rattle.plain.specs.Strips.{coversLimits, lastLimits, meetsLimits, containsLimits}
+use Rattle.walks.specs.Walks.{smallestX, largestX, smallestY, listing, roomOf}
+use Rattle.pools.specs.Cells.{treeOf}
+use Rattle.runs.specs.Calls.{Call, set-up, check, insert, delete, smallest-x, largest-x, smallest-y, list, opens, closes, first, last, earliest, covers, meets, contains, save, lentBy, play}
 use Rattle.runs.specs.Playing.{Run}
 
 -- what a program does at a call: it knows how many calls came before, so it may behave otherwise later; the lent cells; and what is passed in
@@ -23,9 +27,25 @@ isRefusal Nothing = false
 isRefusal (Listed n more) = false
 isRefusal (Refused code) = true
 
--- how many slots a call's walk visits, by its promise; a change has no walk that counts, nor have set up, check and the book
+-- how many slots a call's walk visits, a strip call's by 01's table; a change has no walk that counts, nor have set up, check and the book
 abbrev pub visitsOf : List ℕ → Call → ℕ
-visitsOf c k = promised c k .made .answer .visits
+visitsOf c set-up = 0
+visitsOf c check = 0
+visitsOf c (insert p) = 0
+visitsOf c (delete p) = 0
+visitsOf c (smallest-x q) = smallestX q rootStripe (treeOf c) .visits
+visitsOf c (largest-x q) = largestX q rootStripe (treeOf c) .visits
+visitsOf c (smallest-y x0 x1) = smallestY x0 x1 rootStripe (treeOf c) .visits
+visitsOf c (list q out) = listing q rootStripe (treeOf c) (roomOf out) .visits
+visitsOf c (opens n) = 0
+visitsOf c (closes n) = 0
+visitsOf c (first u) = smallestX (coversLimits u) rootStripe (treeOf c) .visits
+visitsOf c (last u e) = largestX (lastLimits u e) rootStripe (treeOf c) .visits
+visitsOf c (earliest u v) = smallestY (u * 65536) (v * 65536 + 65535) rootStripe (treeOf c) .visits
+visitsOf c (covers u out) = listing (coversLimits u) rootStripe (treeOf c) (roomOf out) .visits
+visitsOf c (meets u v out) = listing (meetsLimits u v) rootStripe (treeOf c) (roomOf out) .visits
+visitsOf c (contains u v out) = listing (containsLimits u v) rootStripe (treeOf c) (roomOf out) .visits
+visitsOf c (save bytes) = 0
 
 -- the kinds of call: over a pool, over strips, the check, and writing the book
 pub data Kind : Type 0 where
@@ -74,8 +94,8 @@ writesOf checks = false
 writesOf saves = true
 
 -- the program meets the promise of a kind's calls, at every input and whenever it is called
-abbrev pub Keeps : Kind → Program → Type 0
-Keeps K g = (t : ℕ) (c : List ℕ) (k : Call) → kindOf k ≡ K → g t c k ≡ play c k
+abbrev pub KeepsTo : Kind → Program → Type 0
+KeepsTo K g = (t : ℕ) (c : List ℕ) (k : Call) → kindOf k ≡ K → g t c k ≡ play c k
 
 -- it meets the promise of every call
 abbrev pub KeepsAll : Program → Type 0

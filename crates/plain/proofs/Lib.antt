@@ -6,5 +6,5 @@ pub mod Closest
 pub mod Scan
 pub mod Counts
 pub mod Alike
-pub mod InOrder
+pub mod Lines
 pub mod Limits

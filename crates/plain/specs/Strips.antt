@@ -33,12 +33,12 @@ pub record Covers (u : ℕ) (p : Pair) : Type 0 where
   pub start : startOf p ≤ u
   pub end : u ≤ endOf p
 
--- it meets u..v when it starts by v and ends from u on: it covers a slot of them (proofs/Rider.antt)
+-- it meets u..v when it starts by v and ends from u on: it covers a slot of them (strips/proofs/Rider.antt)
 pub record Meets (u v : ℕ) (p : Pair) : Type 0 where
   pub start : startOf p ≤ v
   pub end : u ≤ endOf p
 
--- it contains u..v when it starts by u and ends from v on: it covers every slot of them (proofs/Rider.antt)
+-- it contains u..v when it starts by u and ends from v on: it covers every slot of them (strips/proofs/Rider.antt)
 pub record Contains (u v : ℕ) (p : Pair) : Type 0 where
   pub start : startOf p ≤ u
   pub end : v ≤ endOf p

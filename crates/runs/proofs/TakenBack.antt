@@ -1,4 +1,5 @@
--- Any run of any calls, taken back by what was answered: each reversal is accepted, and every cell is as it was. One call at a time: what it
+-- Any run of any calls, taken back by what was answered: each reversal is accepted, and every cell is as at the start, or as the last set up left
+-- it. One call at a time: what it
 -- leaves is taken back by its reversal, or is what it found. Assumed: the x of an inserted pair is of 32 bits.
 use Prim.Native.Nat.{ℕ, _<_}
 use mathlib.Core.Path.{_≡_, refl, ap, _∙_}
@@ -291,7 +292,7 @@ unfolding Did
 all-did [] c b = tt
 all-did (k ∷ ks) c b = (does c k (b .0), stay c k, all-did ks (play c k .cells) (b .1))
 
--- law: any run of any calls, from any cells, is taken back exactly
+-- law: any run of any calls, from any cells, is taken back exactly, to the cells at the start or to those that the last set up left
 pub taken-back : (ks : List Call) (c : List ℕ) → Each SmallX ks → TakenBack ks c
 unfolding takeBack
 taken-back ks c b = record { did = all-did ks c b; returned = can-run ks (from c) b refl }
@@ -336,3 +337,8 @@ since-start (k ∷ ks) r n = since-start ks (goOn r k) (n .1) ∙ kept r k (n .0
     kept r k d = on (accepted (play (r .cells) k))
         (λ t. rw t (same (reverse k (play (r .cells) k .answer)) (play (r .cells) k) r (not-anew k _ d)))
         (λ f. rw f)
+
+-- law: then every cell is as at the start
+pub taken-back-whole : (ks : List Call) (c : List ℕ) → Each SmallX ks → Each (λ k. k ≢ set-up) ks
+    → takeBack (run ks (from c) .back) (run ks (from c) .cells) ≡ record { cells = c; all = true }
+taken-back-whole ks c b n = taken-back ks c b .returned ∙ ap (λ d. record { cells = d; all = true }) (since-start ks (from c) n)

@@ -1,4 +1,4 @@
--- Every call in one definition; runs of calls, over cells and over a plain list; runs of changes, and taking them back.
+-- Every call in one definition; runs of calls, over cells and over a plain list; runs of any calls, and taking them back.
 pub mod Calls
 pub mod Playing
 pub mod TakingBack

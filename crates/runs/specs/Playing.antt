@@ -36,7 +36,7 @@ abbrev pub playPlainly : Book → Call → Kept
 playPlainly b k = kept b (plainly k b)
 
 -- the pairs in some order, each once, are written from the slice's start, as many as it has room for
-pub record Shown (ps : List Pair) (out out′ : List ℕ) : Type 0 where
+pub record InSomeOrder (ps : List Pair) (out out′ : List ℕ) : Type 0 where
   pub all : List Pair
   pub alike : Alike all ps
   pub once : Apart (map (λ p. p .x) all)
@@ -46,7 +46,7 @@ pub record Shown (ps : List Pair) (out out′ : List ℕ) : Type 0 where
 abbrev pub Wrote : Writing → (out out′ : List ℕ) → Type 0
 Wrote nothing out out′ = out′ ≡ out
 Wrote (values vs) out out′ = out′ ≡ vs ++ drop (length vs) out
-Wrote (listing ps) out out′ = Shown ps out out′
+Wrote (listing ps) out out′ = InSomeOrder ps out out′
 
 -- a call ends alike over cells and over a plain list: its outcome, and what it writes
 pub record Alike-end (k : Call) (w : Result) (e : Kept) : Type 0 where
@@ -73,15 +73,15 @@ playAll (k ∷ ks) c =
     record { results = w ∷ r .results; cells = r .cells }
 
 -- the same over a plain list
-pub record Told : Type 0 where
+pub record PlainRun : Type 0 where
   pub ends : List Kept
   pub book : Book
 
-unfoldable pub plainlyAll : List Call → Book → Told
+unfoldable pub plainlyAll : List Call → Book → PlainRun
 plainlyAll [] b = record { ends = []; book = b }
 plainlyAll (k ∷ ks) b =
     let e : Kept = playPlainly b k in
-    let t : Told = plainlyAll ks (e .book) in
+    let t : PlainRun = plainlyAll ks (e .book) in
     record { ends = e ∷ t .ends; book = t .book }
 
 -- each call ends alike over both
@@ -94,6 +94,6 @@ All-alike (k ∷ ks) [] es = ⊥
 All-alike (k ∷ ks) (w ∷ ws) [] = ⊥
 
 -- a run ends alike over both, call by call, and leaves them the same
-pub record Agrees (ks : List Call) (r : Run) (t : Told) : Type 0 where
+pub record Agrees (ks : List Call) (r : Run) (t : PlainRun) : Type 0 where
   pub each : All-alike ks (r .results) (t .ends)
   pub same : Same (r .cells) (t .book)

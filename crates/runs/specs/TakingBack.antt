@@ -105,7 +105,7 @@ Did [] c = Unit {0}
 Did (k ∷ ks) c =
     (accepted (play c k) ≡ true → Does k c (play c k .cells)) × (accepted (play c k) ≡ false → play c k .cells ≡ c) × Did ks (play c k .cells)
 
--- taking back: what each call did to the stored set; then the calls that take back are each accepted, and every cell is as it was since
+-- taking back: what each call did to the stored set; then the calls that take back are each accepted, and every cell is as at the start, or as the last set up left it
 pub record TakenBack (ks : List Call) (c : List ℕ) : Type 0 where
   pub did : Did ks c
   pub returned : takeBack (run ks (from c) .back) (run ks (from c) .cells) ≡ record { cells = run ks (from c) .since; all = true }

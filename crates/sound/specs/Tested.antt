@@ -1,4 +1,4 @@
--- The tree slots that the check tests, counted along the very recursion of its test (`fine`, `below` and `rootFine` of the crate rule).
+-- The tree slots that the check tests, counted along the very recursion of its test (`fine`, `below` and `rootFine` of pools/specs/Test.antt).
 use Prim.Native.Nat.{ℕ, zero, suc, _+_}
 use mathlib.Core.Bool.{Bool, cond, _&&_}
 use mathlib.Core.List.{List}

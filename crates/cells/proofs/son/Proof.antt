@@ -7,14 +7,14 @@ use Rattle.cells.proofs.son.Tie as tie
 returns : tie.Need-returns
 unfolding sonAt
 returns c =
-    let p1 = c .before in
-    rw (p1 .if1 .taken) (c .left .ensures)
+    let at-if1 = c .before in
+    rw (at-if1 .if1 .taken) (c .left .ensures)
 
 returns-2 : tie.Need-returns-2
 unfolding sonAt
 returns-2 c =
-    let p1 = c .before in
-    rw (p1 .if1 .left) (c .right .ensures)
+    let at-if1 = c .before in
+    rw (at-if1 .if1 .left) (c .right .ensures)
 
 pub son-spec : {M : Type 1} → statement M
 son-spec = tie.close (tie.spec (λ c κs. search needs) returns (λ c κs. search needs) returns-2)

@@ -18,28 +18,35 @@ loop-holds c = refl
 
 right-requires : tie.Need-right-requires Inv-loop μ-loop
 right-requires c κs =
-    let p1 = c .before in
-    free-fits _ _ _ (p1 .free-fine .ensures) (c .if3 .taken)
+    let at-free-fine = c .before in
+    free-fits _ _ _ (at-free-fine .free-fine .ensures) (c .if3 .taken)
 
 loop-again : tie.Need-loop-again Inv-loop μ-loop
 loop-again c =
-    let p1 = c .before in let p2 = p1 .before in let p3 = p2 .before in let p4 = p3 .before in
-    goes-on _ _ _ _ (p3 .if1 .left) (p2 .free-fine .ensures) _ (p1 .if3 .taken) (c .right .ensures) ∙ p4 .loop .inv
+    let at-if3 = c .before in
+    let at-free-fine = at-if3 .before in
+    let at-if1 = at-free-fine .before in
+    let at-loop = at-if1 .before in
+    goes-on _ _ _ _ (at-if1 .if1 .left) (at-free-fine .free-fine .ensures) _ (at-if3 .if3 .taken) (c .right .ensures) ∙ at-loop .loop .inv
 
 returns : tie.Need-returns Inv-loop μ-loop
 returns c =
-    let p1 = c .before in let p2 = p1 .before in
-    chain-ends _ _ _ (p1 .if1 .taken) (c .if2 .taken) ∙ ap verdict (p2 .loop .inv)
+    let at-if1 = c .before in
+    let at-loop = at-if1 .before in
+    chain-ends _ _ _ (at-if1 .if1 .taken) (c .if2 .taken) ∙ ap verdict (at-loop .loop .inv)
 
 returns-2 : tie.Need-returns-2 Inv-loop μ-loop
 returns-2 c =
-    let p1 = c .before in let p2 = p1 .before in
-    too-long _ _ _ (p1 .if1 .taken) (c .if2 .left) ∙ ap verdict (p2 .loop .inv)
+    let at-if1 = c .before in
+    let at-loop = at-if1 .before in
+    too-long _ _ _ (at-if1 .if1 .taken) (c .if2 .left) ∙ ap verdict (at-loop .loop .inv)
 
 returns-3 : tie.Need-returns-3 Inv-loop μ-loop
 returns-3 c =
-    let p1 = c .before in let p2 = p1 .before in let p3 = p2 .before in
-    breaks _ _ _ _ (p2 .if1 .left) (p1 .free-fine .ensures) (c .if3 .left) ∙ ap verdict (p3 .loop .inv)
+    let at-free-fine = c .before in
+    let at-if1 = at-free-fine .before in
+    let at-loop = at-if1 .before in
+    breaks _ _ _ _ (at-if1 .if1 .left) (at-free-fine .free-fine .ensures) (c .if3 .left) ∙ ap verdict (at-loop .loop .inv)
 
 pub check-chain-spec : {M : Type 1} → statement M
 check-chain-spec =

@@ -6,18 +6,22 @@ use Rattle.chain.proofs.check_rest.Tie as tie
 
 returns : tie.Need-returns
 returns c =
-    let p1 = c .before in
-    other-count _ _ _ (p1 .count .ensures) (c .if1 .taken)
+    let at-count = c .before in
+    other-count _ _ _ (at-count .count .ensures) (c .if1 .taken)
 
 returns-2 : tie.Need-returns-2
 returns-2 c =
-    let p1 = c .before in let p2 = p1 .before in
-    too-many _ _ _ (p2 .count .ensures) (p1 .if1 .left) (c .if2 .taken)
+    let at-if1 = c .before in
+    let at-count = at-if1 .before in
+    too-many _ _ _ (at-count .count .ensures) (at-if1 .if1 .left) (c .if2 .taken)
 
 returns-3 : tie.Need-returns-3
 returns-3 c =
-    let p1 = c .before in let p2 = p1 .before in let p3 = p2 .before in let p4 = p3 .before in
-    the-rest _ _ _ (p4 .count .ensures) (p3 .if1 .left) _ _ (p2 .if2 .left) (p1 .first-free .ensures) (c .check-chain .ensures)
+    let at-first-free = c .before in
+    let at-if2 = at-first-free .before in
+    let at-if1 = at-if2 .before in
+    let at-count = at-if1 .before in
+    the-rest _ _ _ (at-count .count .ensures) (at-if1 .if1 .left) _ _ (at-if2 .if2 .left) (at-first-free .first-free .ensures) (c .check-chain .ensures)
 
 pub check-rest-spec : {M : Type 1} → statement M
 check-rest-spec =

@@ -6,13 +6,17 @@ use Rattle.down.proofs.settle.Tie as tie
 
 returns : tie.Need-returns
 returns c =
-    let p2 = c .before .before in let p4 = p2 .before .before in let p5 = p4 .before in let p6 = p5 .before in
-    settle-swap (p6 .pair .ensures) (p5 .beats .ensures) (p4 .if1 .taken) (p2 .put-pair .ensures)
+    let at-put-pair = c .before .before in
+    let at-if1 = at-put-pair .before .before in
+    let at-beats = at-if1 .before in
+    let at-pair = at-beats .before in
+    settle-swap (at-pair .pair .ensures) (at-beats .beats .ensures) (at-if1 .if1 .taken) (at-put-pair .put-pair .ensures)
 
 returns-2 : tie.Need-returns-2
 returns-2 c =
-    let p1 = c .before in let p2 = p1 .before in
-    settle-keep (p2 .pair .ensures) (p1 .beats .ensures) (c .if1 .left)
+    let at-beats = c .before in
+    let at-pair = at-beats .before in
+    settle-keep (at-pair .pair .ensures) (at-beats .beats .ensures) (c .if1 .left)
 
 pub settle-spec : {M : Type 1} → statement M
 settle-spec =

@@ -8,13 +8,19 @@ use Rattle.down.proofs.take_free.Tie as tie
 
 same-length : tie.Need-same-length
 same-length c =
-    let p2 = c .before .before in let p6 = p2 .before .before .before .before in let p10 = p6 .before .before .before .before in
-    simp length-set (p2 .put-first-free .kept .0 ∙ p6 .put-links .kept .0 ∙ p10 .put-pair .kept .0)
+    let at-put-first-free = c .before .before in
+    let at-put-links = at-put-first-free .before .before .before .before in
+    let at-put-pair = at-put-links .before .before .before .before in
+    simp length-set (at-put-first-free .put-first-free .kept .0 ∙ at-put-links .put-links .kept .0 ∙ at-put-pair .put-pair .kept .0)
 
 returns : tie.Need-returns
 returns c =
-    let p2 = c .before .before in let p6 = p2 .before .before .before .before in let p10 = p6 .before .before .before .before in let p12 = p10 .before .before in let p14 = p12 .before .before in
-    took _ _ _ _ _ _ _ _ (p14 .first-free .ensures) (p12 .right .ensures) (p10 .put-pair .ensures) (p6 .put-links .ensures) (p2 .put-first-free .ensures)
+    let at-put-first-free = c .before .before in
+    let at-put-links = at-put-first-free .before .before .before .before in
+    let at-put-pair = at-put-links .before .before .before .before in
+    let at-right = at-put-pair .before .before in
+    let at-first-free = at-right .before .before in
+    took _ _ _ _ _ _ _ _ (at-first-free .first-free .ensures) (at-right .right .ensures) (at-put-pair .put-pair .ensures) (at-put-links .put-links .ensures) (at-put-first-free .put-first-free .ensures)
 
 pub take-free-spec : {M : Type 1} → statement M
 take-free-spec =

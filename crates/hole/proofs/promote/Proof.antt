@@ -7,8 +7,9 @@ use Rattle.hole.proofs.promote.Tie as tie
 returns : tie.Need-returns
 unfolding promoted
 returns c =
-    let p2 = c .before .before in let p4 = p2 .before .before in
-    rw (p4 .pair .ensures) at (p2 .put-pair .ensures)
+    let at-put-pair = c .before .before in
+    let at-pair = at-put-pair .before .before in
+    rw (at-pair .pair .ensures) at (at-put-pair .put-pair .ensures)
 
 pub promote-spec : {M : Type 1} → statement M
 promote-spec =

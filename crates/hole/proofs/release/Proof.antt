@@ -12,13 +12,16 @@ put-first-free-requires c κs = omega (arith, c .before .before .before .put-fre
 
 same-length : tie.Need-same-length
 same-length c =
-    let p2 = c .before .before in let p6 = p2 .before .before .before .before in
-    p2 .put-first-free .kept .0 ∙ (simp length-set at (p6 .put-free .kept .0))
+    let at-put-first-free = c .before .before in
+    let at-put-free = at-put-first-free .before .before .before .before in
+    at-put-first-free .put-first-free .kept .0 ∙ (simp length-set at (at-put-free .put-free .kept .0))
 
 returns : tie.Need-returns
 returns c =
-    let p2 = c .before .before in let p6 = p2 .before .before .before .before in let p8 = p6 .before .before in
-    released-by _ _ _ (p8 .first-free .ensures) (p6 .put-free .ensures) (p2 .put-first-free .ensures)
+    let at-put-first-free = c .before .before in
+    let at-put-free = at-put-first-free .before .before .before .before in
+    let at-first-free = at-put-free .before .before in
+    released-by _ _ _ (at-first-free .first-free .ensures) (at-put-free .put-free .ensures) (at-put-first-free .put-first-free .ensures)
 
 pub release-spec : {M : Type 1} → statement M
 release-spec =

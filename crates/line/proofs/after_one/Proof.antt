@@ -13,18 +13,25 @@ slice-aggregate-number-in c = sym (length-take-le _ _ (c .before .word-length .e
 
 returns : tie.Need-returns
 returns c =
-    let p2 = c .before .before in let p4 = p2 .before .before in
-    not-a-number _ _ _ (p4 .word-length .ensures .0) (sym (p2 .number-in .ensures) ∙ c .enum-told .given .1)
+    let at-number-in = c .before .before in
+    let at-word-length = at-number-in .before .before in
+    not-a-number _ _ _ (at-word-length .word-length .ensures .0) (sym (at-number-in .number-in .ensures) ∙ c .enum-told .given .1)
 
 returns-2 : tie.Need-returns-2
 returns-2 c =
-    let p2 = c .before .before in let p4 = p2 .before .before in let p6 = p4 .before .before in
-    last-number (_ ∷ []) _ _ (p6 .word-length .ensures .0) _ (sym (p4 .number-in .ensures) ∙ p2 .b .given .1) (c .if1 .taken)
+    let at-b = c .before .before in
+    let at-number-in = at-b .before .before in
+    let at-word-length = at-number-in .before .before in
+    last-number (_ ∷ []) _ _ (at-word-length .word-length .ensures .0) _ (sym (at-number-in .number-in .ensures) ∙ at-b .b .given .1) (c .if1 .taken)
 
 returns-3 : tie.Need-returns-3
 returns-3 c =
-    let p2 = c .before .before in let p4 = p2 .before .before in let p6 = p4 .before .before in let p8 = p6 .before .before in let p10 = p8 .before .before in
-    c .after-two .ensures ∙ more-numbers (_ ∷ []) _ _ (p8 .word-length .ensures .0) _ (sym (p6 .number-in .ensures) ∙ p4 .b .given .1) (p2 .if1 .left) _ (the-rest (p8 .word-length .result + 1) (p10 .args .text .now))
+    let at-if1 = c .before .before in
+    let at-b = at-if1 .before .before in
+    let at-number-in = at-b .before .before in
+    let at-word-length = at-number-in .before .before in
+    let at-entry = at-word-length .before .before in
+    c .after-two .ensures ∙ more-numbers (_ ∷ []) _ _ (at-word-length .word-length .ensures .0) _ (sym (at-number-in .number-in .ensures) ∙ at-b .b .given .1) (at-if1 .if1 .left) _ (the-rest (at-word-length .word-length .result + 1) (at-entry .args .text .now))
 
 pub after-one-spec : {M : Type 1} → statement M
 after-one-spec =

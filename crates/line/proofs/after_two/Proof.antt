@@ -12,18 +12,23 @@ slice-aggregate-number-in c = sym (length-take-le _ _ (c .before .word-length .e
 
 returns : tie.Need-returns
 returns c =
-    let p2 = c .before .before in let p4 = p2 .before .before in
-    not-a-number _ _ _ (p4 .word-length .ensures .0) (sym (p2 .number-in .ensures) ∙ c .enum-told .given .1)
+    let at-number-in = c .before .before in
+    let at-word-length = at-number-in .before .before in
+    not-a-number _ _ _ (at-word-length .word-length .ensures .0) (sym (at-number-in .number-in .ensures) ∙ c .enum-told .given .1)
 
 returns-2 : tie.Need-returns-2
 returns-2 c =
-    let p2 = c .before .before in let p4 = p2 .before .before in let p6 = p4 .before .before in
-    last-number (_ ∷ _ ∷ []) _ _ (p6 .word-length .ensures .0) _ (sym (p4 .number-in .ensures) ∙ p2 .c .given .1) (c .if1 .taken)
+    let at-c = c .before .before in
+    let at-number-in = at-c .before .before in
+    let at-word-length = at-number-in .before .before in
+    last-number (_ ∷ _ ∷ []) _ _ (at-word-length .word-length .ensures .0) _ (sym (at-number-in .number-in .ensures) ∙ at-c .c .given .1) (c .if1 .taken)
 
 returns-3 : tie.Need-returns-3
 returns-3 c =
-    let p2 = c .before .before in let p4 = p2 .before .before in let p6 = p4 .before .before in
-    too-many _ _ _ _ ∙ more-numbers (_ ∷ _ ∷ []) _ _ (p6 .word-length .ensures .0) _ (sym (p4 .number-in .ensures) ∙ p2 .c .given .1) (c .if1 .left) _ refl
+    let at-c = c .before .before in
+    let at-number-in = at-c .before .before in
+    let at-word-length = at-number-in .before .before in
+    too-many _ _ _ _ ∙ more-numbers (_ ∷ _ ∷ []) _ _ (at-word-length .word-length .ensures .0) _ (sym (at-number-in .number-in .ensures) ∙ at-c .c .given .1) (c .if1 .left) _ refl
 
 pub after-two-spec : {M : Type 1} → statement M
 after-two-spec =

@@ -20,40 +20,50 @@ loop-holds c = first-byte _
 
 returns : tie.Need-returns Inv-loop μ-loop
 returns c =
-    let p1 = c .before in let p3 = p1 .before .before in let p4 = p3 .before in
-    no-digit _ _ _ (p4 .loop .inv) (p3 .loop-test .taken) _ refl (sym (p1 .is-digit .ensures) ∙ not-true _ (c .if1 .taken))
+    let at-is-digit = c .before in
+    let at-loop-test = at-is-digit .before .before in
+    let at-loop = at-loop-test .before in
+    no-digit _ _ _ (at-loop .loop .inv) (at-loop-test .loop-test .taken) _ refl (sym (at-is-digit .is-digit .ensures) ∙ not-true _ (c .if1 .taken))
 
 mul-sum : tie.Need-mul-sum Inv-loop μ-loop
 mul-sum c = let h = c .before .before .before .before .loop .inv .few in omega arith
 
 sub-wide : tie.Need-sub-wide Inv-loop μ-loop
 sub-wide c =
-    let p1 = c .before in
-    digit-range _ (sym (p1 .is-digit .ensures) ∙ not-false _ (c .if1 .left)) .0
+    let at-is-digit = c .before in
+    digit-range _ (sym (at-is-digit .is-digit .ensures) ∙ not-false _ (c .if1 .left)) .0
 
 add-sum : tie.Need-add-sum Inv-loop μ-loop
 add-sum c = let h = digit-more _ _ _ (c .before .before .before .before .before .loop .inv .few) (sym (c .before .before .is-digit .ensures) ∙ not-false _ (c .before .if1 .left)) (c .wide .ensures) in omega arith
 
 returns-2 : tie.Need-returns-2 Inv-loop μ-loop
 returns-2 c =
-    let p1 = c .before in let p2 = p1 .before in let p3 = p2 .before in let p5 = p3 .before .before in let p6 = p5 .before in
-    too-large _ _ _ (p6 .loop .inv) (p5 .loop-test .taken) _ refl (sym (p3 .is-digit .ensures) ∙ not-false _ (p2 .if1 .left)) _ (p1 .wide .ensures) (c .if2 .taken)
+    let at-wide = c .before in
+    let at-if1 = at-wide .before in
+    let at-is-digit = at-if1 .before in
+    let at-loop-test = at-is-digit .before .before in
+    let at-loop = at-loop-test .before in
+    too-large _ _ _ (at-loop .loop .inv) (at-loop-test .loop-test .taken) _ refl (sym (at-is-digit .is-digit .ensures) ∙ not-false _ (at-if1 .if1 .left)) _ (at-wide .wide .ensures) (c .if2 .taken)
 
 loop-less : tie.Need-loop-less Inv-loop μ-loop
 loop-less c = let h = c .before .before .before .before .before .loop-test .taken in omega arith
 
 loop-again : tie.Need-loop-again Inv-loop μ-loop
 loop-again c =
-    let p1 = c .before in let p2 = p1 .before in let p3 = p2 .before in let p5 = p3 .before .before in let p6 = p5 .before in
-    next-byte _ _ _ (p6 .loop .inv) (p5 .loop-test .taken) _ refl (sym (p3 .is-digit .ensures) ∙ not-false _ (p2 .if1 .left)) _ (p1 .wide .ensures) (c .if2 .left)
+    let at-wide = c .before in
+    let at-if1 = at-wide .before in
+    let at-is-digit = at-if1 .before in
+    let at-loop-test = at-is-digit .before .before in
+    let at-loop = at-loop-test .before in
+    next-byte _ _ _ (at-loop .loop .inv) (at-loop-test .loop-test .taken) _ refl (sym (at-is-digit .is-digit .ensures) ∙ not-false _ (at-if1 .if1 .left)) _ (at-wide .wide .ensures) (c .if2 .left)
 
 cast-t12 : tie.Need-cast-t12 Inv-loop μ-loop
 cast-t12 c = let h = c .before .loop .inv .few in omega arith
 
 returns-3 : tie.Need-returns-3 Inv-loop μ-loop
 returns-3 c =
-    let p1 = c .before in
-    no-byte _ _ _ (p1 .loop .inv) (c .loop-test .left)
+    let at-loop = c .before in
+    no-byte _ _ _ (at-loop .loop .inv) (c .loop-test .left)
 
 pub digits-in-spec : {M : Type 1} → statement M
 digits-in-spec =

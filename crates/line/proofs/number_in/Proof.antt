@@ -10,13 +10,16 @@ returns c = empty-word _ (c .if1 .taken)
 
 returns-2 : tie.Need-returns-2
 returns-2 c =
-    let p1 = c .before in let p2 = p1 .before in
-    zero-led _ (p2 .if1 .left) (sym (p1 .leading-zero .ensures) ∙ c .if2 .taken)
+    let at-leading-zero = c .before in
+    let at-if1 = at-leading-zero .before in
+    zero-led _ (at-if1 .if1 .left) (sym (at-leading-zero .leading-zero .ensures) ∙ c .if2 .taken)
 
 returns-3 : tie.Need-returns-3
 returns-3 c =
-    let p1 = c .before in let p2 = p1 .before in let p3 = p2 .before in
-    c .digits-in .ensures ∙ not-zero-led _ (p3 .if1 .left) (sym (p2 .leading-zero .ensures) ∙ p1 .if2 .left)
+    let at-if2 = c .before in
+    let at-leading-zero = at-if2 .before in
+    let at-if1 = at-leading-zero .before in
+    c .digits-in .ensures ∙ not-zero-led _ (at-if1 .if1 .left) (sym (at-leading-zero .leading-zero .ensures) ∙ at-if2 .if2 .left)
 
 pub number-in-spec : {M : Type 1} → statement M
 number-in-spec =

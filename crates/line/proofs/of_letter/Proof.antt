@@ -5,18 +5,18 @@ use Rattle.line.proofs.of_letter.Tie as tie
 
 returns-2 : tie.Need-returns-2
 returns-2 c =
-    let p2 = c .before .before in
-    simp (p2 .numbers .given .1) (c .one-number .ensures)
+    let at-numbers = c .before .before in
+    simp (at-numbers .numbers .given .1) (c .one-number .ensures)
 
 returns-3 : tie.Need-returns-3
 returns-3 c =
-    let p2 = c .before .before in
-    simp (p2 .numbers2 .given .1) (c .two-numbers .ensures)
+    let at-numbers2 = c .before .before in
+    simp (at-numbers2 .numbers2 .given .1) (c .two-numbers .ensures)
 
 returns-4 : tie.Need-returns-4
 returns-4 c =
-    let p2 = c .before .before in
-    simp (p2 .numbers3 .given .1) (c .three-numbers .ensures)
+    let at-numbers3 = c .before .before in
+    simp (at-numbers3 .numbers3 .given .1) (c .three-numbers .ensures)
 
 pub of-letter-spec : {M : Type 1} → statement M
 of-letter-spec =

@@ -11,18 +11,23 @@ returns c = too-long _ (c .if1 .taken)
 
 returns-2 : tie.Need-returns-2
 returns-2 c =
-    let p1 = c .before in
-    too-few _ (p1 .if1 .left) (c .if2 .taken)
+    let at-if1 = c .before in
+    too-few _ (at-if1 .if1 .left) (c .if2 .taken)
 
 returns-3 : tie.Need-returns-3
 returns-3 c =
-    let p2 = c .before .before in let p3 = p2 .before in
-    no-space _ (p3 .if1 .left) (p2 .if2 .left) (c .if3 .taken)
+    let at-if2 = c .before .before in
+    let at-if1 = at-if2 .before in
+    no-space _ (at-if1 .if1 .left) (at-if2 .if2 .left) (c .if3 .taken)
 
 returns-4 : tie.Need-returns-4
 returns-4 c =
-    let p2 = c .before .before in let p4 = p2 .before .before in let p6 = p4 .before .before in let p7 = p6 .before in let p9 = p7 .before .before in
-    c .of-letter .ensures ∙ rw (p2 .numbers-in .ensures, the-rest 2 (p9 .args .line .now)) (letter-first _ (p7 .if1 .left) (p6 .if2 .left) (p4 .if3 .left))
+    let at-numbers-in = c .before .before in
+    let at-if3 = at-numbers-in .before .before in
+    let at-if2 = at-if3 .before .before in
+    let at-if1 = at-if2 .before in
+    let at-entry = at-if1 .before .before in
+    c .of-letter .ensures ∙ rw (at-numbers-in .numbers-in .ensures, the-rest 2 (at-entry .args .line .now)) (letter-first _ (at-if1 .if1 .left) (at-if2 .if2 .left) (at-if3 .if3 .left))
 
 pub read-line-spec : {M : Type 1} → statement M
 read-line-spec =

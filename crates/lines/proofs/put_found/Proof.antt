@@ -14,8 +14,11 @@ put-number-requires-2 c κs = let h = room-behind _ _ _ _ _ _ 44 (c .before .bef
 
 returns : tie.Need-returns
 returns c =
-    let p2 = c .before .before in let p6 = p2 .before .before .before .before in let p10 = p6 .before .before .before .before in let p12 = p10 .before .before in
-    found-put _ _ (p12 .numbers .ensures) (p10 .put-number .ensures) (p6 .put-strip .ensures) (p2 .put-number2 .ensures)
+    let at-put-number2 = c .before .before in
+    let at-put-strip = at-put-number2 .before .before .before .before in
+    let at-put-number = at-put-strip .before .before .before .before in
+    let at-numbers = at-put-number .before .before in
+    found-put _ _ (at-numbers .numbers .ensures) (at-put-number .put-number .ensures) (at-put-strip .put-strip .ensures) (at-put-number2 .put-number2 .ensures)
 
 pub put-found-spec : {M : Type 1} → statement M
 put-found-spec =

@@ -23,8 +23,12 @@ put-matches-requires c κs =
 
 returns : tie.Need-returns
 returns c =
-    let p2 = c .before .before in let p6 = p2 .before .before .before .before in let p10 = p6 .before .before .before .before in let p14 = p10 .before .before .before .before in let p16 = p14 .before .before in
-    listed-put _ _ (p16 .numbers .ensures) _ (p14 .put-number .ensures) (p10 .put-number2 .ensures) (p6 .put-number3 .ensures) (p2 .put-matches .ensures)
+    let at-put-matches = c .before .before in
+    let at-put-number3 = at-put-matches .before .before .before .before in
+    let at-put-number2 = at-put-number3 .before .before .before .before in
+    let at-put-number = at-put-number2 .before .before .before .before in
+    let at-numbers = at-put-number .before .before in
+    listed-put _ _ (at-numbers .numbers .ensures) _ (at-put-number .put-number .ensures) (at-put-number2 .put-number2 .ensures) (at-put-number3 .put-number3 .ensures) (at-put-matches .put-matches .ensures)
 
 pub put-listed-spec : {M : Type 1} → statement M
 put-listed-spec =

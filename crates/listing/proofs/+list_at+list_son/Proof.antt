@@ -57,16 +57,21 @@ list-at-pair-requires t c κs = there _ _ _ _ _ (c .before .before .before .pre 
 
 list-at-returns : (t : ℕ) → list-at-lts.Need-returns (list-at-calls t) (list-at-at t) list-at.Post
 list-at-returns t c =
-    let p2 = c .before .before in let p6 = p2 .before .before .before .before in
-    list-stop _ _ _ _ _ _ _ _ _ _ (p6 .pre .1 .0) (p6 .pre .1 .2) _ (p2 .pair .ensures) (c .if1 .taken)
+    let at-pair = c .before .before in
+    let at-entry = at-pair .before .before .before .before in
+    list-stop _ _ _ _ _ _ _ _ _ _ (at-entry .pre .1 .0) (at-entry .pre .1 .2) _ (at-pair .pair .ensures) (c .if1 .taken)
 
 list-at-list-own-requires : (t : ℕ) → list-at-lts.Need-list-own-requires (list-at-calls t) (list-at-at t) list-at.Post
 list-at-list-own-requires t c κs = c .before .before .before .before .before .before .before .before .before .pre .1 .2
 
 list-at-returns-2 : (t : ℕ) → list-at-lts.Need-returns-2 (list-at-calls t) (list-at-at t) list-at.Post
 list-at-returns-2 t c =
-    let p3 = c .before .before .before in let p5 = p3 .before .before in let p7 = p5 .before .before in let p9 = p7 .before .before in let p13 = p9 .before .before .before .before in
-    list-own-full _ _ _ _ _ _ _ _ _ _ (p13 .pre .1 .0) (p13 .pre .1 .2) _ (p9 .pair .ensures) (p7 .if1 .left) _ (p5 .room-of .ensures) _ _ (p3 .list-own .ensures) (c .if2 .taken)
+    let at-list-own = c .before .before .before in
+    let at-room-of = at-list-own .before .before in
+    let at-if1 = at-room-of .before .before in
+    let at-pair = at-if1 .before .before in
+    let at-entry = at-pair .before .before .before .before in
+    list-own-full _ _ _ _ _ _ _ _ _ _ (at-entry .pre .1 .0) (at-entry .pre .1 .2) _ (at-pair .pair .ensures) (at-if1 .if1 .left) _ (at-room-of .room-of .ensures) _ _ (at-list-own .list-own .ensures) (c .if2 .taken)
 
 list-at-left-requires : (t : ℕ) → list-at-lts.Need-left-requires (list-at-calls t) (list-at-at t) list-at.Post
 list-at-left-requires t c κs = there _ _ _ _ _ (c .before .before .before .before .before .before .before .before .before .before .before .before .before .pre .1 .0) (c .before .before .before .before .before .before .before .before .before .before .before .before .before .pre .1 .1)
@@ -85,8 +90,17 @@ list-at-list-son-requires t c κs = (omega (arith, c .before .before .before .be
 
 list-at-returns-3 : (t : ℕ) → list-at-lts.Need-returns-3 (list-at-calls t) (list-at-at t) list-at.Post
 list-at-returns-3 t c =
-    let p3 = c .before .before .before in let p5 = p3 .before .before in let p6 = p5 .before in let p9 = p6 .before .before .before in let p10 = p9 .before in let p13 = p10 .before .before .before in let p15 = p13 .before .before in let p17 = p15 .before .before in let p19 = p17 .before .before in let p23 = p19 .before .before .before .before in
-    list-left-full _ _ _ _ _ _ _ _ _ _ (p23 .pre .1 .0) (p23 .pre .1 .2) _ (p19 .pair .ensures) (p17 .if1 .left) _ (p15 .room-of .ensures) _ _ (p13 .list-own .ensures) (p10 .if2 .left) _ _ _ (p9 .left .ensures) (p6 .goes-left .ensures) (p5 .left2 .ensures) _ _ _ (p3 .list-son .ensures) (c .if3 .taken)
+    let at-list-son = c .before .before .before in
+    let at-left2 = at-list-son .before .before in
+    let at-goes-left = at-left2 .before in
+    let at-left = at-goes-left .before .before .before in
+    let at-if2 = at-left .before in
+    let at-list-own = at-if2 .before .before .before in
+    let at-room-of = at-list-own .before .before in
+    let at-if1 = at-room-of .before .before in
+    let at-pair = at-if1 .before .before in
+    let at-entry = at-pair .before .before .before .before in
+    list-left-full _ _ _ _ _ _ _ _ _ _ (at-entry .pre .1 .0) (at-entry .pre .1 .2) _ (at-pair .pair .ensures) (at-if1 .if1 .left) _ (at-room-of .room-of .ensures) _ _ (at-list-own .list-own .ensures) (at-if2 .if2 .left) _ _ _ (at-left .left .ensures) (at-goes-left .goes-left .ensures) (at-left2 .left2 .ensures) _ _ _ (at-list-son .list-son .ensures) (c .if3 .taken)
 
 list-at-goes-left-requires-2 : (t : ℕ) → list-at-lts.Need-goes-left-requires-2 (list-at-calls t) (list-at-at t) list-at.Post
 list-at-goes-left-requires-2 t c κs = c .before .before .before .before .before .before .before .before .before .before .before .before .before .before .before .before .before .before .before .before .before .before .before .before .pre .1 .1 .low
@@ -102,15 +116,29 @@ list-at-same-length-3 t c = omega (arith, c .before .before .list-son2 .kept .1 
 
 list-at-returns-4 : (t : ℕ) → list-at-lts.Need-returns-4 (list-at-calls t) (list-at-at t) list-at.Post
 list-at-returns-4 t c =
-    let p2 = c .before .before in let p4 = p2 .before .before in let p5 = p4 .before in let p7 = p5 .before .before in let p10 = p7 .before .before .before in let p12 = p10 .before .before in let p13 = p12 .before in let p15 = p13 .before .before in let p16 = p15 .before in let p17 = p16 .before in let p20 = p17 .before .before .before in let p22 = p20 .before .before in let p24 = p22 .before .before in let p26 = p24 .before .before in let p30 = p26 .before .before .before .before in
-    list-both _ _ _ _ _ _ _ _ _ _ (p30 .pre .1 .0) (p30 .pre .1 .2) _ (p26 .pair .ensures) (p24 .if1 .left) _ (p22 .room-of .ensures) _ _ (p20 .list-own .ensures) (p17 .if2 .left) _ _ _ (p16 .left .ensures) (p13 .goes-left .ensures) (p12 .left2 .ensures) _ _ _ (p10 .list-son .ensures) (p7 .if3 .left) _ _ _ (p15 .right .ensures) (p5 .goes-left2 .ensures) (p4 .right2 .ensures) _ _ _ (p2 .list-son2 .ensures)
+    let at-list-son2 = c .before .before in
+    let at-right2 = at-list-son2 .before .before in
+    let at-goes-left2 = at-right2 .before in
+    let at-if3 = at-goes-left2 .before .before in
+    let at-list-son = at-if3 .before .before .before in
+    let at-left2 = at-list-son .before .before in
+    let at-goes-left = at-left2 .before in
+    let at-right = at-goes-left .before .before in
+    let at-left = at-right .before in
+    let at-if2 = at-left .before in
+    let at-list-own = at-if2 .before .before .before in
+    let at-room-of = at-list-own .before .before in
+    let at-if1 = at-room-of .before .before in
+    let at-pair = at-if1 .before .before in
+    let at-entry = at-pair .before .before .before .before in
+    list-both _ _ _ _ _ _ _ _ _ _ (at-entry .pre .1 .0) (at-entry .pre .1 .2) _ (at-pair .pair .ensures) (at-if1 .if1 .left) _ (at-room-of .room-of .ensures) _ _ (at-list-own .list-own .ensures) (at-if2 .if2 .left) _ _ _ (at-left .left .ensures) (at-goes-left .goes-left .ensures) (at-left2 .left2 .ensures) _ _ _ (at-list-son .list-son .ensures) (at-if3 .if3 .left) _ _ _ (at-right .right .ensures) (at-goes-left2 .goes-left2 .ensures) (at-right2 .right2 .ensures) _ _ _ (at-list-son2 .list-son2 .ensures)
 
 list-son-returns :
     (t : ℕ) →
     list-son-lts.Need-returns (list-son-calls t) (list-son-at t) list-son.Post
 list-son-returns t c =
-    let p3 = c .before .before .before in
-    list-none _ _ _ _ _ _ _ _ _ (p3 .args .go) (c .if1 .taken)
+    let at-entry = c .before .before .before in
+    list-none _ _ _ _ _ _ _ _ _ (at-entry .args .go) (c .if1 .taken)
 
 list-son-sub-list-at :
     (t : ℕ) →
@@ -126,8 +154,11 @@ list-son-returns-2 :
     (t : ℕ) →
     list-son-lts.Need-returns-2 (list-son-calls t) (list-son-at t) list-son.Post
 list-son-returns-2 t c =
-    let p2 = c .before .before in let p5 = p2 .before .before .before in let p6 = p5 .before in let p9 = p6 .before .before .before in
-    list-asked _ _ _ _ _ _ _ _ _ _ _ _ _ (p5 .if2 .taken) (deep _ _ _ _ _ (p9 .pre .1 .0) (p6 .if1 .left)) (p2 .list-at .ensures)
+    let at-list-at = c .before .before in
+    let at-if2 = at-list-at .before .before .before in
+    let at-if1 = at-if2 .before in
+    let at-entry = at-if1 .before .before .before in
+    list-asked _ _ _ _ _ _ _ _ _ _ _ _ _ (at-if2 .if2 .taken) (deep _ _ _ _ _ (at-entry .pre .1 .0) (at-if1 .if1 .left)) (at-list-at .list-at .ensures)
 
 list-son-returns-3 :
     (t : ℕ) →

@@ -13,16 +13,24 @@ cast-t18 c = let z = room-fits _ (c .before .before .before .before .before .bef
 
 returns : tie.Need-returns
 returns c =
-    let p3 = c .before .before .before in let p5 = p3 .before .before in let p7 = p5 .before .before in let p8 = p7 .before in let p12 = p8 .before .before .before .before in
-    list-full _ (p12 .pre) _ _ (p7 .root .ensures) (p5 .root2 .ensures) _ _ _ _ _ (p8 .room-of .ensures) _ _ _ (p3 .list-son .ensures) (c .if1 .taken)
+    let at-list-son = c .before .before .before in
+    let at-root2 = at-list-son .before .before in
+    let at-root = at-root2 .before .before in
+    let at-room-of = at-root .before in
+    let at-entry = at-room-of .before .before .before .before in
+    list-full _ (at-entry .pre) _ _ (at-root .root .ensures) (at-root2 .root2 .ensures) _ _ _ _ _ (at-room-of .room-of .ensures) _ _ _ (at-list-son .list-son .ensures) (c .if1 .taken)
 
 cast-t14 : tie.Need-cast-t14
 cast-t14 c = let z = count-fits _ (c .before .before .before .before .before .before .before .before .before .before .before .before .pre) _ _ (c .before .before .before .before .before .before .before .root .ensures) (c .before .before .before .before .before .root2 .ensures) _ _ _ _ _ (c .before .before .before .before .before .before .before .before .room-of .ensures) _ _ _ (c .before .before .before .list-son .ensures) (c .if1 .left) in omega arith
 
 returns-2 : tie.Need-returns-2
 returns-2 c =
-    let p3 = c .before .before .before in let p5 = p3 .before .before in let p7 = p5 .before .before in let p8 = p7 .before in let p12 = p8 .before .before .before .before in
-    list-whole _ (p12 .pre) _ _ (p7 .root .ensures) (p5 .root2 .ensures) _ _ _ _ _ (p8 .room-of .ensures) _ _ _ (p3 .list-son .ensures) (c .if1 .left)
+    let at-list-son = c .before .before .before in
+    let at-root2 = at-list-son .before .before in
+    let at-root = at-root2 .before .before in
+    let at-room-of = at-root .before in
+    let at-entry = at-room-of .before .before .before .before in
+    list-whole _ (at-entry .pre) _ _ (at-root .root .ensures) (at-root2 .root2 .ensures) _ _ _ _ _ (at-room-of .room-of .ensures) _ _ _ (at-list-son .list-son .ensures) (c .if1 .left)
 
 pub list-spec : {M : Type 1} → statement M
 list-spec =

@@ -9,21 +9,28 @@ use Rattle.listing.proofs.list_own.Tie as tie
 
 returns : tie.Need-returns
 returns c =
-    let p1 = c .before in let p3 = p1 .before .before in
-    own-out _ _ (p3 .args .x0) (p3 .args .x1) (p3 .args .p) (p1 .in-range .ensures) (not-true _ (c .if1 .taken))
+    let at-in-range = c .before in
+    let at-entry = at-in-range .before .before in
+    own-out _ _ (at-entry .args .x0) (at-entry .args .x1) (at-entry .args .p) (at-in-range .in-range .ensures) (not-true _ (c .if1 .taken))
 
 returns-2 : tie.Need-returns-2
 returns-2 c =
-    let p1 = c .before in let p3 = p1 .before .before in let p4 = p3 .before in let p6 = p4 .before .before in
-    own-counted _ _ (p6 .args .x0) (p6 .args .x1) (p6 .args .p) (p4 .in-range .ensures) (not-false _ (p3 .if1 .left)) _ (p1 .room-of .ensures) (c .if2 .taken)
+    let at-room-of = c .before in
+    let at-if1 = at-room-of .before .before in
+    let at-in-range = at-if1 .before in
+    let at-entry = at-in-range .before .before in
+    own-counted _ _ (at-entry .args .x0) (at-entry .args .x1) (at-entry .args .p) (at-in-range .in-range .ensures) (not-false _ (at-if1 .if1 .left)) _ (at-room-of .room-of .ensures) (c .if2 .taken)
 
 slice-write-out-2 : tie.Need-slice-write-out-2
 slice-write-out-2 c = simp length-set (omega (arith, c .before .room-of .ensures, c .if2 .left))
 
 returns-3 : tie.Need-returns-3
 returns-3 c =
-    let p1 = c .before in let p3 = p1 .before .before in let p4 = p3 .before in let p6 = p4 .before .before in
-    own-put _ _ (p6 .args .x0) (p6 .args .x1) (p6 .args .p) (p4 .in-range .ensures) (not-false _ (p3 .if1 .left)) _ (p1 .room-of .ensures) (c .if2 .left)
+    let at-room-of = c .before in
+    let at-if1 = at-room-of .before .before in
+    let at-in-range = at-if1 .before in
+    let at-entry = at-in-range .before .before in
+    own-put _ _ (at-entry .args .x0) (at-entry .args .x1) (at-entry .args .p) (at-in-range .in-range .ensures) (not-false _ (at-if1 .if1 .left)) _ (at-room-of .room-of .ensures) (c .if2 .left)
 
 pub list-own-spec : {M : Type 1} → statement M
 list-own-spec =

@@ -86,18 +86,35 @@ better-son-smallest-y-at-requires-2 t c κs =
 
 better-son-lower-requires : (t : ℕ) → better-son-lts.Need-lower-requires (better-son-calls t) (better-son-at t) better-son.Post
 better-son-lower-requires t c κs =
-    let p4 = c .before .before .before .before in
-    (p4 .smallest-y-at .ensures .some, c .smallest-y-at2 .ensures .some)
+    let at-smallest-y-at = c .before .before .before .before in
+    (at-smallest-y-at .smallest-y-at .ensures .some, c .smallest-y-at2 .ensures .some)
 
 better-son-returns : (t : ℕ) → better-son-lts.Need-returns (better-son-calls t) (better-son-at t) better-son.Post
 better-son-returns t c =
-    let p1 = c .before in let p3 = p1 .before .before in let p4 = p3 .before in let p5 = p4 .before in let p7 = p5 .before .before in let p8 = p7 .before in let p9 = p8 .before in let p10 = p9 .before in let p11 = p10 .before in let p12 = p11 .before in let p14 = p12 .before .before in
-    both _ _ _ _ _ _ _ _ (p14 .pre .1) _ (p12 .goes-left .ensures) _ (p11 .asks .ensures) _ (p10 .goes-left2 .ensures) _ (p9 .asks2 .ensures) _ (p8 .if1 .taken) (p7 .left .ensures) _ _ (p5 .smallest-y-at .ensures) _ (p4 .if2 .taken) (p3 .right .ensures) _ _ _ (p1 .smallest-y-at2 .ensures) (c .lower .ensures)
+    let at-smallest-y-at2 = c .before in
+    let at-right = at-smallest-y-at2 .before .before in
+    let at-if2 = at-right .before in
+    let at-smallest-y-at = at-if2 .before in
+    let at-left = at-smallest-y-at .before .before in
+    let at-if1 = at-left .before in
+    let at-asks2 = at-if1 .before in
+    let at-goes-left2 = at-asks2 .before in
+    let at-asks = at-goes-left2 .before in
+    let at-goes-left = at-asks .before in
+    let at-entry = at-goes-left .before .before in
+    both _ _ _ _ _ _ _ _ (at-entry .pre .1) _ (at-goes-left .goes-left .ensures) _ (at-asks .asks .ensures) _ (at-goes-left2 .goes-left2 .ensures) _ (at-asks2 .asks2 .ensures) _ (at-if1 .if1 .taken) (at-left .left .ensures) _ _ (at-smallest-y-at .smallest-y-at .ensures) _ (at-if2 .if2 .taken) (at-right .right .ensures) _ _ _ (at-smallest-y-at2 .smallest-y-at2 .ensures) (c .lower .ensures)
 
 better-son-returns-2 : (t : ℕ) → better-son-lts.Need-returns-2 (better-son-calls t) (better-son-at t) better-son.Post
 better-son-returns-2 t c =
-    let p1 = c .before in let p3 = p1 .before .before in let p4 = p3 .before in let p5 = p4 .before in let p6 = p5 .before in let p7 = p6 .before in let p8 = p7 .before in let p10 = p8 .before .before in
-    left-only _ _ _ _ _ _ _ _ (p10 .pre .1) _ (p8 .goes-left .ensures) _ (p7 .asks .ensures) _ (p6 .goes-left2 .ensures) _ (p5 .asks2 .ensures) _ (p4 .if1 .taken) (p3 .left .ensures) _ _ (p1 .smallest-y-at .ensures) (c .if2 .left)
+    let at-smallest-y-at = c .before in
+    let at-left = at-smallest-y-at .before .before in
+    let at-if1 = at-left .before in
+    let at-asks2 = at-if1 .before in
+    let at-goes-left2 = at-asks2 .before in
+    let at-asks = at-goes-left2 .before in
+    let at-goes-left = at-asks .before in
+    let at-entry = at-goes-left .before .before in
+    left-only _ _ _ _ _ _ _ _ (at-entry .pre .1) _ (at-goes-left .goes-left .ensures) _ (at-asks .asks .ensures) _ (at-goes-left2 .goes-left2 .ensures) _ (at-asks2 .asks2 .ensures) _ (at-if1 .if1 .taken) (at-left .left .ensures) _ _ (at-smallest-y-at .smallest-y-at .ensures) (c .if2 .left)
 
 better-son-sub-smallest-y-at-3 : (t : ℕ) → better-son-lts.Need-sub-smallest-y-at-3 (better-son-calls t) (better-son-at t) better-son.Post
 better-son-sub-smallest-y-at-3 t c = let d = right-deep _ _ _ _ _ _ _ _ (c .before .before .before .before .before .before .before .pre .1) _ (c .before .before .before .before .before .goes-left .ensures) _ (c .before .before .before .before .asks .ensures) _ (c .before .before .before .goes-left2 .ensures) _ (c .before .before .asks2 .ensures) (c .if3 .taken) in omega arith
@@ -112,13 +129,25 @@ better-son-smallest-y-at-requires-3 t c κs =
 
 better-son-returns-3 : (t : ℕ) → better-son-lts.Need-returns-3 (better-son-calls t) (better-son-at t) better-son.Post
 better-son-returns-3 t c =
-    let p2 = c .before .before in let p3 = p2 .before in let p4 = p3 .before in let p5 = p4 .before in let p6 = p5 .before in let p7 = p6 .before in let p8 = p7 .before in let p10 = p8 .before .before in
-    right-only _ _ _ _ _ _ _ _ (p10 .pre .1) _ (p8 .goes-left .ensures) _ (p7 .asks .ensures) _ (p6 .goes-left2 .ensures) _ (p5 .asks2 .ensures) (p4 .if1 .left) _ (p3 .if3 .taken) (p2 .right2 .ensures) _ _ (c .smallest-y-at3 .ensures)
+    let at-right2 = c .before .before in
+    let at-if3 = at-right2 .before in
+    let at-if1 = at-if3 .before in
+    let at-asks2 = at-if1 .before in
+    let at-goes-left2 = at-asks2 .before in
+    let at-asks = at-goes-left2 .before in
+    let at-goes-left = at-asks .before in
+    let at-entry = at-goes-left .before .before in
+    right-only _ _ _ _ _ _ _ _ (at-entry .pre .1) _ (at-goes-left .goes-left .ensures) _ (at-asks .asks .ensures) _ (at-goes-left2 .goes-left2 .ensures) _ (at-asks2 .asks2 .ensures) (at-if1 .if1 .left) _ (at-if3 .if3 .taken) (at-right2 .right2 .ensures) _ _ (c .smallest-y-at3 .ensures)
 
 better-son-returns-4 : (t : ℕ) → better-son-lts.Need-returns-4 (better-son-calls t) (better-son-at t) better-son.Post
 better-son-returns-4 t c =
-    let p1 = c .before in let p2 = p1 .before in let p3 = p2 .before in let p4 = p3 .before in let p5 = p4 .before in let p7 = p5 .before .before in
-    neither _ _ _ _ _ _ _ _ (p7 .pre .1) _ (p5 .goes-left .ensures) _ (p4 .asks .ensures) _ (p3 .goes-left2 .ensures) _ (p2 .asks2 .ensures) (p1 .if1 .left) (c .if3 .left)
+    let at-if1 = c .before in
+    let at-asks2 = at-if1 .before in
+    let at-goes-left2 = at-asks2 .before in
+    let at-asks = at-goes-left2 .before in
+    let at-goes-left = at-asks .before in
+    let at-entry = at-goes-left .before .before in
+    neither _ _ _ _ _ _ _ _ (at-entry .pre .1) _ (at-goes-left .goes-left .ensures) _ (at-asks .asks .ensures) _ (at-goes-left2 .goes-left2 .ensures) _ (at-asks2 .asks2 .ensures) (at-if1 .if1 .left) (c .if3 .left)
 
 smallest-y-at-add-visits : (t : ℕ) → smallest-y-at-lts.Need-add-visits (smallest-y-at-calls t) (smallest-y-at-at t) smallest-y-at.Post
 smallest-y-at-add-visits t c = let z = one-more _ _ _ _ _ (c .before .before .pre .1 .0) (c .before .before .pre .1 .1) in omega arith
@@ -128,8 +157,10 @@ smallest-y-at-pair-requires t c κs = there _ _ _ _ _ (c .before .before .pre .1
 
 smallest-y-at-returns : (t : ℕ) → smallest-y-at-lts.Need-returns (smallest-y-at-calls t) (smallest-y-at-at t) smallest-y-at.Post
 smallest-y-at-returns t c =
-    let p1 = c .before in let p2 = p1 .before in let p5 = p2 .before .before .before in
-    own-pair _ _ _ _ _ (p5 .pre .1 .0) (p5 .pre .1 .1) _ _ _ (p2 .pair .ensures) _ (p1 .in-range .ensures) (c .if1 .taken)
+    let at-in-range = c .before in
+    let at-pair = at-in-range .before in
+    let at-entry = at-pair .before .before .before in
+    own-pair _ _ _ _ _ (at-entry .pre .1 .0) (at-entry .pre .1 .1) _ _ _ (at-pair .pair .ensures) _ (at-in-range .in-range .ensures) (c .if1 .taken)
 
 smallest-y-at-left-requires : (t : ℕ) → smallest-y-at-lts.Need-left-requires (smallest-y-at-calls t) (smallest-y-at-at t) smallest-y-at.Post
 smallest-y-at-left-requires t c κs = there _ _ _ _ _ (c .before .before .before .before .before .pre .1 .0) (c .before .before .before .before .before .pre .1 .1)
@@ -142,8 +173,13 @@ smallest-y-at-better-son-requires t c κs = (omega (arith, c .before .before .be
 
 smallest-y-at-returns-2 : (t : ℕ) → smallest-y-at-lts.Need-returns-2 (smallest-y-at-calls t) (smallest-y-at-at t) smallest-y-at.Post
 smallest-y-at-returns-2 t c =
-    let p2 = c .before .before in let p3 = p2 .before in let p4 = p3 .before in let p5 = p4 .before in let p6 = p5 .before in let p9 = p6 .before .before .before in
-    below _ _ _ _ _ (p9 .pre .1 .0) (p9 .pre .1 .1) _ _ _ (p6 .pair .ensures) _ (p5 .in-range .ensures) (p4 .if1 .left) _ _ (p3 .left .ensures) (p2 .right .ensures) _ _ (c .better-son .ensures)
+    let at-right = c .before .before in
+    let at-left = at-right .before in
+    let at-if1 = at-left .before in
+    let at-in-range = at-if1 .before in
+    let at-pair = at-in-range .before in
+    let at-entry = at-pair .before .before .before in
+    below _ _ _ _ _ (at-entry .pre .1 .0) (at-entry .pre .1 .1) _ _ _ (at-pair .pair .ensures) _ (at-in-range .in-range .ensures) (at-if1 .if1 .left) _ _ (at-left .left .ensures) (at-right .right .ensures) _ _ (c .better-son .ensures)
 
 pub +better-son+smallest-y-at-spec : {M : Type 1} → statement M
 +better-son+smallest-y-at-spec = close μ-better-son μ-smallest-y-at (λ t. better-son-lts.spec (better-son-calls t) (better-son-at t) better-son.Post

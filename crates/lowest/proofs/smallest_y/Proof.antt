@@ -11,21 +11,26 @@ root-requires c κs = header _ (c .before .pre)
 
 returns : tie.Need-returns
 returns c =
-    let p1 = c .before in
-    top-none (smallestY _ _) _ _ (p1 .root .ensures) (smallestY-empty _ _ _) (c .if1 .taken)
+    let at-root = c .before in
+    top-none (smallestY _ _) _ _ (at-root .root .ensures) (smallestY-empty _ _ _) (c .if1 .taken)
 
 smallest-y-at-requires : tie.Need-smallest-y-at-requires
 smallest-y-at-requires c κs =
-    let p1 = c .before in let p2 = p1 .before in let p3 = p2 .before in let p5 = p3 .before .before in
-    root-here _ (p5 .pre) _ _ (p3 .root .ensures) (p2 .if1 .left) (p1 .root2 .ensures)
+    let at-root2 = c .before in
+    let at-if1 = at-root2 .before in
+    let at-root = at-if1 .before in
+    let at-entry = at-root .before .before in
+    root-here _ (at-entry .pre) _ _ (at-root .root .ensures) (at-if1 .if1 .left) (at-root2 .root2 .ensures)
 
 found-at-requires : tie.Need-found-at-requires
 found-at-requires c κs = c .smallest-y-at .ensures .some
 
 returns-2 : tie.Need-returns-2
 returns-2 c =
-    let p1 = c .before in let p3 = p1 .before .before in let p5 = p3 .before .before in
-    top-walked (smallestY _ _) _ _ (p5 .root .ensures) _ (p3 .root2 .ensures) _ _ (p1 .smallest-y-at .ensures) _ (c .found-at .ensures)
+    let at-smallest-y-at = c .before in
+    let at-root2 = at-smallest-y-at .before .before in
+    let at-root = at-root2 .before .before in
+    top-walked (smallestY _ _) _ _ (at-root .root .ensures) _ (at-root2 .root2 .ensures) _ _ (at-smallest-y-at .smallest-y-at .ensures) _ (c .found-at .ensures)
 
 pub smallest-y-spec : {M : Type 1} → statement M
 smallest-y-spec =

@@ -9,14 +9,15 @@ use Rattle.nearest.proofs.right_asked.Tie as tie
 returns : tie.Need-returns
 unfolding rightAsked
 returns c =
-    let p1 = c .before in
-    rw (lt-leb _ _ (ltb-true _ _ (sym (p1 .goes-left .ensures) ∙ c .if1 .taken)))
+    let at-goes-left = c .before in
+    rw (lt-leb _ _ (ltb-true _ _ (sym (at-goes-left .goes-left .ensures) ∙ c .if1 .taken)))
 
 returns-2 : tie.Need-returns-2
 unfolding rightAsked
 returns-2 c =
-    let p1 = c .before in let p2 = p1 .before in
-    rw (le-leb _ _ (ltb-false _ _ (sym (p2 .goes-left .ensures) ∙ p1 .if1 .left))) (c .right .ensures)
+    let at-if1 = c .before in
+    let at-goes-left = at-if1 .before in
+    rw (le-leb _ _ (ltb-false _ _ (sym (at-goes-left .goes-left .ensures) ∙ at-if1 .if1 .left))) (c .right .ensures)
 
 pub right-asked-spec : {M : Type 1} → statement M
 right-asked-spec = tie.close (tie.spec (λ c κs. search needs) returns (λ c κs. search needs) returns-2)

@@ -8,26 +8,35 @@ use Rattle.nearest.proofs.smaller_of.Tie as tie
 
 returns : tie.Need-returns
 returns c =
-    let p2 = c .before .before in
-    no-hit _ smaller _ _ _ (p2 .pre .2) (not-true _ (c .if1 .taken))
+    let at-entry = c .before .before in
+    no-hit _ smaller _ _ _ (at-entry .pre .2) (not-true _ (c .if1 .taken))
 
 returns-2 : tie.Need-returns-2
 returns-2 c =
-    let p1 = c .before in let p3 = p1 .before .before in
-    own-alone _ smaller _ _ _ (p3 .pre .0) (p3 .pre .1) (not-false _ (p1 .if1 .left)) (c .if2 .taken)
+    let at-if1 = c .before in
+    let at-entry = at-if1 .before .before in
+    own-alone _ smaller _ _ _ (at-entry .pre .0) (at-entry .pre .1) (not-false _ (at-if1 .if1 .left)) (c .if2 .taken)
 
 pair-requires : tie.Need-pair-requires
 pair-requires c κs = c .before .before .before .pre .2 (c .if2 .left)
 
 returns-3 : tie.Need-returns-3
 returns-3 c =
-    let p3 = c .before .before .before in let p4 = p3 .before in let p5 = p4 .before in let p6 = p5 .before in let p8 = p6 .before .before in
-    best-closer _ smaller _ _ _ (p8 .pre .0) (p8 .pre .1) (not-false _ (p6 .if1 .left)) (p5 .if2 .left) _ _ (p3 .pair2 .ensures) (p4 .pair .ensures) (p8 .pre .2) (lt-ltb _ _ (c .if3 .taken))
+    let at-pair2 = c .before .before .before in
+    let at-pair = at-pair2 .before in
+    let at-if2 = at-pair .before in
+    let at-if1 = at-if2 .before in
+    let at-entry = at-if1 .before .before in
+    best-closer _ smaller _ _ _ (at-entry .pre .0) (at-entry .pre .1) (not-false _ (at-if1 .if1 .left)) (at-if2 .if2 .left) _ _ (at-pair2 .pair2 .ensures) (at-pair .pair .ensures) (at-entry .pre .2) (lt-ltb _ _ (c .if3 .taken))
 
 returns-4 : tie.Need-returns-4
 returns-4 c =
-    let p3 = c .before .before .before in let p4 = p3 .before in let p5 = p4 .before in let p6 = p5 .before in let p8 = p6 .before .before in
-    own-stays _ smaller _ _ _ (p8 .pre .0) (p8 .pre .1) (not-false _ (p6 .if1 .left)) (p5 .if2 .left) _ _ (p3 .pair2 .ensures) (p4 .pair .ensures) (le-ltb _ _ (c .if3 .left))
+    let at-pair2 = c .before .before .before in
+    let at-pair = at-pair2 .before in
+    let at-if2 = at-pair .before in
+    let at-if1 = at-if2 .before in
+    let at-entry = at-if1 .before .before in
+    own-stays _ smaller _ _ _ (at-entry .pre .0) (at-entry .pre .1) (not-false _ (at-if1 .if1 .left)) (at-if2 .if2 .left) _ _ (at-pair2 .pair2 .ensures) (at-pair .pair .ensures) (le-ltb _ _ (c .if3 .left))
 
 pub smaller-of-spec : {M : Type 1} → statement M
 smaller-of-spec =

@@ -27,8 +27,9 @@ root-requires c κs = header _ (c .before .pre)
 
 loop-holds : tie.Need-loop-holds Inv-loop μ-loop
 loop-holds c =
-    let p1 = c .before in let p3 = p1 .before .before in
-    start (smallestX _) smaller _ (p3 .pre) _ _ _ refl refl refl _ (p1 .root .ensures) _ (c .root2 .ensures)
+    let at-root = c .before in
+    let at-entry = at-root .before .before in
+    start (smallestX _) smaller _ (at-entry .pre) _ _ _ refl refl refl _ (at-root .root .ensures) _ (c .root2 .ensures)
 
 found-at-requires : tie.Need-found-at-requires Inv-loop μ-loop
 found-at-requires c κs = c .before .before .loop .inv .going .some
@@ -56,57 +57,80 @@ array-read-t32 c = omega (arith, c .if2 .left, c .before .before .loop .inv .mos
 
 loop-less : tie.Need-loop-less Inv-loop μ-loop
 loop-less c =
-    let p2 = c .before .before in
-    pop-less (p2 .loop .inv) (c .if2 .left)
+    let at-loop = c .before .before in
+    pop-less (at-loop .loop .inv) (c .if2 .left)
 
 loop-again : tie.Need-loop-again Inv-loop μ-loop
 loop-again c =
-    let p1 = c .before in let p2 = p1 .before in
-    pop (p2 .loop .inv) (smallest _) (p1 .if1 .taken) (c .if2 .left)
+    let at-if1 = c .before in
+    let at-loop = at-if1 .before in
+    pop (at-loop .loop .inv) (smallest _) (at-if1 .if1 .taken) (c .if2 .left)
 
 add-visits : tie.Need-add-visits Inv-loop μ-loop
 add-visits c = omega (arith, one-more (c .before .loop .inv) (c .if1 .left))
 
 pair-requires : tie.Need-pair-requires Inv-loop μ-loop
 pair-requires c κs =
-    let p1 = c .before in
-    fits (p1 .loop .inv) (c .if1 .left)
+    let at-loop = c .before in
+    fits (at-loop .loop .inv) (c .if1 .left)
 
 loop-less-2 : tie.Need-loop-less-2 Inv-loop μ-loop
 loop-less-2 c =
-    let p3 = c .before .before .before in let p4 = p3 .before in
-    high-less (p4 .loop .inv) (p3 .if1 .left)
+    let at-if1 = c .before .before .before in
+    let at-loop = at-if1 .before in
+    high-less (at-loop .loop .inv) (at-if1 .if1 .left)
 
 loop-again-2 : tie.Need-loop-again-2 Inv-loop μ-loop
 loop-again-2 c =
-    let p2 = c .before .before in let p3 = p2 .before in let p4 = p3 .before in
-    too-high (p4 .loop .inv) (smallest _) (p3 .if1 .left) (smallest-sons _ _ _ _ _ (standing (p4 .loop .inv)) (p3 .if1 .left) _ _ _ _ refl refl refl refl) (p2 .pair .ensures) (c .if3 .taken)
+    let at-pair = c .before .before in
+    let at-if1 = at-pair .before in
+    let at-loop = at-if1 .before in
+    too-high (at-loop .loop .inv) (smallest _) (at-if1 .if1 .left) (smallest-sons _ _ _ _ _ (standing (at-loop .loop .inv)) (at-if1 .if1 .left) _ _ _ _ refl refl refl refl) (at-pair .pair .ensures) (c .if3 .taken)
 
 smaller-of-requires : tie.Need-smaller-of-requires Inv-loop μ-loop
 smaller-of-requires c κs = (omega (arith, c .before .before .before .before .if1 .left), fits (c .before .before .before .before .before .loop .inv) (c .before .before .before .before .if1 .left), c .before .before .before .before .before .loop .inv .going .some)
 
 left-asked-requires : tie.Need-left-asked-requires Inv-loop μ-loop
 left-asked-requires c κs =
-    let p6 = c .before .before .before .before .before .before in let p7 = p6 .before in
-    (fits (p7 .loop .inv) (p6 .if1 .left), middle-fits (p7 .loop .inv))
+    let at-if1 = c .before .before .before .before .before .before in
+    let at-loop = at-if1 .before in
+    (fits (at-loop .loop .inv) (at-if1 .if1 .left), middle-fits (at-loop .loop .inv))
 
 right-asked-requires : tie.Need-right-asked-requires Inv-loop μ-loop
 right-asked-requires c κs =
-    let p7 = c .before .before .before .before .before .before .before in let p8 = p7 .before in
-    (fits (p8 .loop .inv) (p7 .if1 .left), middle-fits (p8 .loop .inv))
+    let at-if1 = c .before .before .before .before .before .before .before in
+    let at-loop = at-if1 .before in
+    (fits (at-loop .loop .inv) (at-if1 .if1 .left), middle-fits (at-loop .loop .inv))
 
 right-requires : tie.Need-right-requires Inv-loop μ-loop
 right-requires c κs = middle-fits (c .before .before .before .before .before .before .before .before .before .before .loop .inv)
 
 loop-less-3 : tie.Need-loop-less-3 Inv-loop μ-loop
 loop-less-3 c =
-    let p2 = c .before .before in let p3 = p2 .before in let p4 = p3 .before in let p5 = p4 .before in let p6 = p5 .before in let p7 = p6 .before in let p9 = p7 .before .before in let p10 = p9 .before in let p11 = p10 .before in
-    far-less (p11 .loop .inv) (smallest _) (p10 .if1 .left) (smallest-sons _ _ _ _ _ (standing (p11 .loop .inv)) (p10 .if1 .left) _ _ _ _ (p3 .left-asked .ensures) (p2 .right-asked .ensures) refl (c .right .ensures)) (p9 .pair .ensures) (p7 .if3 .left) (p6 .in-range .ensures) (p5 .smaller-of .ensures) (p4 .still .ensures)
+    let at-right-asked = c .before .before in
+    let at-left-asked = at-right-asked .before in
+    let at-still = at-left-asked .before in
+    let at-smaller-of = at-still .before in
+    let at-in-range = at-smaller-of .before in
+    let at-if3 = at-in-range .before in
+    let at-pair = at-if3 .before .before in
+    let at-if1 = at-pair .before in
+    let at-loop = at-if1 .before in
+    far-less (at-loop .loop .inv) (smallest _) (at-if1 .if1 .left) (smallest-sons _ _ _ _ _ (standing (at-loop .loop .inv)) (at-if1 .if1 .left) _ _ _ _ (at-left-asked .left-asked .ensures) (at-right-asked .right-asked .ensures) refl (c .right .ensures)) (at-pair .pair .ensures) (at-if3 .if3 .left) (at-in-range .in-range .ensures) (at-smaller-of .smaller-of .ensures) (at-still .still .ensures)
 
 loop-again-3 : tie.Need-loop-again-3 Inv-loop μ-loop
 loop-again-3 c =
-    let p1 = c .before in let p2 = p1 .before in let p3 = p2 .before in let p4 = p3 .before in let p5 = p4 .before in let p6 = p5 .before in let p7 = p6 .before in let p9 = p7 .before .before in let p10 = p9 .before in let p11 = p10 .before in
-    to-far (p11 .loop .inv) (smallest _) (p10 .if1 .left) (smallest-sons _ _ _ _ _ (standing (p11 .loop .inv)) (p10 .if1 .left) _ _ _ _ (p3 .left-asked .ensures) (p2 .right-asked .ensures) refl (c .right .ensures)) (p9 .pair .ensures) (p7 .if3 .left) (p6 .in-range .ensures) (p5 .smaller-of .ensures) (p4 .still .ensures) (p1 .if4 .taken)
+    let at-if4 = c .before in
+    let at-right-asked = at-if4 .before in
+    let at-left-asked = at-right-asked .before in
+    let at-still = at-left-asked .before in
+    let at-smaller-of = at-still .before in
+    let at-in-range = at-smaller-of .before in
+    let at-if3 = at-in-range .before in
+    let at-pair = at-if3 .before .before in
+    let at-if1 = at-pair .before in
+    let at-loop = at-if1 .before in
+    to-far (at-loop .loop .inv) (smallest _) (at-if1 .if1 .left) (smallest-sons _ _ _ _ _ (standing (at-loop .loop .inv)) (at-if1 .if1 .left) _ _ _ _ (at-left-asked .left-asked .ensures) (at-right-asked .right-asked .ensures) refl (c .right .ensures)) (at-pair .pair .ensures) (at-if3 .if3 .left) (at-in-range .in-range .ensures) (at-smaller-of .smaller-of .ensures) (at-still .still .ensures) (at-if4 .if4 .taken)
 
 right-requires-2 : tie.Need-right-requires-2 Inv-loop μ-loop
 right-requires-2 c κs = middle-fits (c .before .before .before .before .before .before .before .before .before .before .before .before .loop .inv)
@@ -114,8 +138,18 @@ right-requires-2 c κs = middle-fits (c .before .before .before .before .before 
 -- there is room for the place that is put into the rows
 room : (c : tie.After-right2 Inv-loop μ-loop) → c .before .before .before .before .before .before .still .result < lowLevels
 room c =
-    let p2 = c .before .before in let p3 = p2 .before in let p4 = p3 .before in let p5 = p4 .before in let p6 = p5 .before in let p7 = p6 .before in let p8 = p7 .before in let p9 = p8 .before in let p11 = p9 .before .before in let p12 = p11 .before in let p13 = p12 .before in
-    room-left (p13 .loop .inv) (smallest _) (p12 .if1 .left) (smallest-sons _ _ _ _ _ (standing (p13 .loop .inv)) (p12 .if1 .left) _ _ _ _ (p5 .left-asked .ensures) (p4 .right-asked .ensures) (p2 .left .ensures) (c .right2 .ensures)) (p11 .pair .ensures) (p9 .if3 .left) (p8 .in-range .ensures) (p7 .smaller-of .ensures) (p6 .still .ensures) (p3 .if4 .left)
+    let at-left = c .before .before in
+    let at-if4 = at-left .before in
+    let at-right-asked = at-if4 .before in
+    let at-left-asked = at-right-asked .before in
+    let at-still = at-left-asked .before in
+    let at-smaller-of = at-still .before in
+    let at-in-range = at-smaller-of .before in
+    let at-if3 = at-in-range .before in
+    let at-pair = at-if3 .before .before in
+    let at-if1 = at-pair .before in
+    let at-loop = at-if1 .before in
+    room-left (at-loop .loop .inv) (smallest _) (at-if1 .if1 .left) (smallest-sons _ _ _ _ _ (standing (at-loop .loop .inv)) (at-if1 .if1 .left) _ _ _ _ (at-left-asked .left-asked .ensures) (at-right-asked .right-asked .ensures) (at-left .left .ensures) (c .right2 .ensures)) (at-pair .pair .ensures) (at-if3 .if3 .left) (at-in-range .in-range .ensures) (at-smaller-of .smaller-of .ensures) (at-still .still .ensures) (at-if4 .if4 .left)
 
 mul-slots : tie.Need-mul-slots Inv-loop μ-loop
 mul-slots c = omega (arith, room c)
@@ -140,28 +174,68 @@ add-wait c = omega (arith, room c)
 
 loop-less-4 : tie.Need-loop-less-4 Inv-loop μ-loop
 loop-less-4 c =
-    let p2 = c .before .before in let p3 = p2 .before in let p4 = p3 .before in let p5 = p4 .before in let p6 = p5 .before in let p7 = p6 .before in let p8 = p7 .before in let p9 = p8 .before in let p11 = p9 .before .before in let p12 = p11 .before in let p13 = p12 .before in
-    push-less (p13 .loop .inv) (smallest _) (p12 .if1 .left) (smallest-sons _ _ _ _ _ (standing (p13 .loop .inv)) (p12 .if1 .left) _ _ _ _ (p5 .left-asked .ensures) (p4 .right-asked .ensures) (p2 .left .ensures) (c .right2 .ensures)) (p11 .pair .ensures) (p9 .if3 .left) (p8 .in-range .ensures) (p7 .smaller-of .ensures) (p6 .still .ensures) (p3 .if4 .left)
+    let at-left = c .before .before in
+    let at-if4 = at-left .before in
+    let at-right-asked = at-if4 .before in
+    let at-left-asked = at-right-asked .before in
+    let at-still = at-left-asked .before in
+    let at-smaller-of = at-still .before in
+    let at-in-range = at-smaller-of .before in
+    let at-if3 = at-in-range .before in
+    let at-pair = at-if3 .before .before in
+    let at-if1 = at-pair .before in
+    let at-loop = at-if1 .before in
+    push-less (at-loop .loop .inv) (smallest _) (at-if1 .if1 .left) (smallest-sons _ _ _ _ _ (standing (at-loop .loop .inv)) (at-if1 .if1 .left) _ _ _ _ (at-left-asked .left-asked .ensures) (at-right-asked .right-asked .ensures) (at-left .left .ensures) (c .right2 .ensures)) (at-pair .pair .ensures) (at-if3 .if3 .left) (at-in-range .in-range .ensures) (at-smaller-of .smaller-of .ensures) (at-still .still .ensures) (at-if4 .if4 .left)
 
 loop-again-4 : tie.Need-loop-again-4 Inv-loop μ-loop
 loop-again-4 c =
-    let p2 = c .before .before in let p3 = p2 .before in let p4 = p3 .before in let p5 = p4 .before in let p6 = p5 .before in let p7 = p6 .before in let p8 = p7 .before in let p9 = p8 .before in let p11 = p9 .before .before in let p12 = p11 .before in let p13 = p12 .before in
-    push (p13 .loop .inv) (smallest _) (p12 .if1 .left) (smallest-sons _ _ _ _ _ (standing (p13 .loop .inv)) (p12 .if1 .left) _ _ _ _ (p5 .left-asked .ensures) (p4 .right-asked .ensures) (p2 .left .ensures) (c .right2 .ensures)) (p11 .pair .ensures) (p9 .if3 .left) (p8 .in-range .ensures) (p7 .smaller-of .ensures) (p6 .still .ensures) (p3 .if4 .left)
+    let at-left = c .before .before in
+    let at-if4 = at-left .before in
+    let at-right-asked = at-if4 .before in
+    let at-left-asked = at-right-asked .before in
+    let at-still = at-left-asked .before in
+    let at-smaller-of = at-still .before in
+    let at-in-range = at-smaller-of .before in
+    let at-if3 = at-in-range .before in
+    let at-pair = at-if3 .before .before in
+    let at-if1 = at-pair .before in
+    let at-loop = at-if1 .before in
+    push (at-loop .loop .inv) (smallest _) (at-if1 .if1 .left) (smallest-sons _ _ _ _ _ (standing (at-loop .loop .inv)) (at-if1 .if1 .left) _ _ _ _ (at-left-asked .left-asked .ensures) (at-right-asked .right-asked .ensures) (at-left .left .ensures) (c .right2 .ensures)) (at-pair .pair .ensures) (at-if3 .if3 .left) (at-in-range .in-range .ensures) (at-smaller-of .smaller-of .ensures) (at-still .still .ensures) (at-if4 .if4 .left)
 
 loop-less-5 : tie.Need-loop-less-5 Inv-loop μ-loop
 loop-less-5 c =
-    let p1 = c .before in let p3 = p1 .before .before in let p4 = p3 .before in let p5 = p4 .before in let p6 = p5 .before in let p7 = p6 .before in let p8 = p7 .before in let p10 = p8 .before .before in let p11 = p10 .before in let p12 = p11 .before in
-    near-less (p12 .loop .inv) (smallest _) (p11 .if1 .left) (smallest-sons _ _ _ _ _ (standing (p12 .loop .inv)) (p11 .if1 .left) _ _ _ _ (p4 .left-asked .ensures) (p3 .right-asked .ensures) (p1 .left .ensures) refl) (p10 .pair .ensures) (p8 .if3 .left) (p7 .in-range .ensures) (p6 .smaller-of .ensures) (p5 .still .ensures)
+    let at-left = c .before in
+    let at-right-asked = at-left .before .before in
+    let at-left-asked = at-right-asked .before in
+    let at-still = at-left-asked .before in
+    let at-smaller-of = at-still .before in
+    let at-in-range = at-smaller-of .before in
+    let at-if3 = at-in-range .before in
+    let at-pair = at-if3 .before .before in
+    let at-if1 = at-pair .before in
+    let at-loop = at-if1 .before in
+    near-less (at-loop .loop .inv) (smallest _) (at-if1 .if1 .left) (smallest-sons _ _ _ _ _ (standing (at-loop .loop .inv)) (at-if1 .if1 .left) _ _ _ _ (at-left-asked .left-asked .ensures) (at-right-asked .right-asked .ensures) (at-left .left .ensures) refl) (at-pair .pair .ensures) (at-if3 .if3 .left) (at-in-range .in-range .ensures) (at-smaller-of .smaller-of .ensures) (at-still .still .ensures)
 
 loop-again-5 : tie.Need-loop-again-5 Inv-loop μ-loop
 loop-again-5 c =
-    let p1 = c .before in let p3 = p1 .before .before in let p4 = p3 .before in let p5 = p4 .before in let p6 = p5 .before in let p7 = p6 .before in let p8 = p7 .before in let p10 = p8 .before .before in let p11 = p10 .before in let p12 = p11 .before in
-    to-near (p12 .loop .inv) (smallest _) (p11 .if1 .left) (smallest-sons _ _ _ _ _ (standing (p12 .loop .inv)) (p11 .if1 .left) _ _ _ _ (p4 .left-asked .ensures) (p3 .right-asked .ensures) (p1 .left .ensures) refl) (p10 .pair .ensures) (p8 .if3 .left) (p7 .in-range .ensures) (p6 .smaller-of .ensures) (p5 .still .ensures) (c .if5 .left)
+    let at-left = c .before in
+    let at-right-asked = at-left .before .before in
+    let at-left-asked = at-right-asked .before in
+    let at-still = at-left-asked .before in
+    let at-smaller-of = at-still .before in
+    let at-in-range = at-smaller-of .before in
+    let at-if3 = at-in-range .before in
+    let at-pair = at-if3 .before .before in
+    let at-if1 = at-pair .before in
+    let at-loop = at-if1 .before in
+    to-near (at-loop .loop .inv) (smallest _) (at-if1 .if1 .left) (smallest-sons _ _ _ _ _ (standing (at-loop .loop .inv)) (at-if1 .if1 .left) _ _ _ _ (at-left-asked .left-asked .ensures) (at-right-asked .right-asked .ensures) (at-left .left .ensures) refl) (at-pair .pair .ensures) (at-if3 .if3 .left) (at-in-range .in-range .ensures) (at-smaller-of .smaller-of .ensures) (at-still .still .ensures) (c .if5 .left)
 
 returns : tie.Need-returns Inv-loop μ-loop
 returns c =
-    let p1 = c .before in let p2 = p1 .before in let p3 = p2 .before in
-    stop (p3 .loop .inv) (smallest _) (p2 .if1 .taken) (p1 .if2 .taken) (c .found-at .ensures)
+    let at-if2 = c .before in
+    let at-if1 = at-if2 .before in
+    let at-loop = at-if1 .before in
+    stop (at-loop .loop .inv) (smallest _) (at-if1 .if1 .taken) (at-if2 .if2 .taken) (c .found-at .ensures)
 
 pub smallest-x-spec : {M : Type 1} → statement M
 smallest-x-spec =

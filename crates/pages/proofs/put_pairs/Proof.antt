@@ -17,28 +17,48 @@ loop-holds c = first-turn _ _ (c .before .before .pre .1)
 
 put-row-requires : tie.Need-put-row-requires Inv-loop μ-loop
 put-row-requires c κs =
-    let p2 = c .before .before in let p4 = p2 .before .before in let p5 = p4 .before in let p7 = p5 .before .before in let p8 = p7 .before in
-    room-here _ _ _ _ _ (p5 .loop .inv) _ _ (next _ (p7 .shared-slice-known .given) (p8 .pre .0) _ _ (p4 .smallest-x .ensures) _ (p2 .f .given .1))
+    let at-f = c .before .before in
+    let at-smallest-x = at-f .before .before in
+    let at-loop = at-smallest-x .before in
+    let at-shared-slice-known = at-loop .before .before in
+    let at-entry = at-shared-slice-known .before in
+    room-here _ _ _ _ _ (at-loop .loop .inv) _ _ (next _ (at-shared-slice-known .shared-slice-known .given) (at-entry .pre .0) _ _ (at-smallest-x .smallest-x .ensures) _ (at-f .f .given .1))
 
 loop-less : tie.Need-loop-less Inv-loop μ-loop
 loop-less c =
-    let p8 = c .before .before .before .before .before .before .before .before in let p10 = p8 .before .before in let p13 = p10 .before .before .before in let p14 = p13 .before in
-    one-less _ (p13 .shared-slice-known .given) (p14 .pre .0) _ _ (p10 .smallest-x .ensures) _ (p8 .f .given .1)
+    let at-f = c .before .before .before .before .before .before .before .before in
+    let at-smallest-x = at-f .before .before in
+    let at-shared-slice-known = at-smallest-x .before .before .before in
+    let at-entry = at-shared-slice-known .before in
+    one-less _ (at-shared-slice-known .shared-slice-known .given) (at-entry .pre .0) _ _ (at-smallest-x .smallest-x .ensures) _ (at-f .f .given .1)
 
 loop-again : tie.Need-loop-again Inv-loop μ-loop
 loop-again c =
-    let p5 = c .before .before .before .before .before in let p8 = p5 .before .before .before in let p10 = p8 .before .before in let p11 = p10 .before in let p13 = p11 .before .before in let p14 = p13 .before in
-    next-turn _ _ _ _ _ (p11 .loop .inv) _ _ (next _ (p13 .shared-slice-known .given) (p14 .pre .0) _ _ (p10 .smallest-x .ensures) _ (p8 .f .given .1)) _ (p5 .put-row .ensures) _ refl
+    let at-put-row = c .before .before .before .before .before in
+    let at-f = at-put-row .before .before .before in
+    let at-smallest-x = at-f .before .before in
+    let at-loop = at-smallest-x .before in
+    let at-shared-slice-known = at-loop .before .before in
+    let at-entry = at-shared-slice-known .before in
+    next-turn _ _ _ _ _ (at-loop .loop .inv) _ _ (next _ (at-shared-slice-known .shared-slice-known .given) (at-entry .pre .0) _ _ (at-smallest-x .smallest-x .ensures) _ (at-f .f .given .1)) _ (at-put-row .put-row .ensures) _ refl
 
 returns : tie.Need-returns Inv-loop μ-loop
 returns c =
-    let p2 = c .before .before in let p3 = p2 .before in let p5 = p3 .before .before in let p6 = p5 .before in
-    all-written _ _ _ _ _ (p3 .loop .inv) (nothing-left _ (p5 .shared-slice-known .given) (p6 .pre .0) _ _ (p2 .smallest-x .ensures) (c .enum-told .given .1))
+    let at-smallest-x = c .before .before in
+    let at-loop = at-smallest-x .before in
+    let at-shared-slice-known = at-loop .before .before in
+    let at-entry = at-shared-slice-known .before in
+    all-written _ _ _ _ _ (at-loop .loop .inv) (nothing-left _ (at-shared-slice-known .shared-slice-known .given) (at-entry .pre .0) _ _ (at-smallest-x .smallest-x .ensures) (c .enum-told .given .1))
 
 returns-2 : tie.Need-returns-2 Inv-loop μ-loop
 returns-2 c =
-    let p4 = c .before .before .before .before in let p7 = p4 .before .before .before in let p9 = p7 .before .before in let p10 = p9 .before in let p12 = p10 .before .before in let p13 = p12 .before in
-    last-written _ _ _ _ _ (p10 .loop .inv) _ _ (next-last _ (p12 .shared-slice-known .given) (p13 .pre .0) _ _ (p9 .smallest-x .ensures) _ (p7 .f .given .1) (c .if1 .taken)) _ (p4 .put-row .ensures) refl
+    let at-put-row = c .before .before .before .before in
+    let at-f = at-put-row .before .before .before in
+    let at-smallest-x = at-f .before .before in
+    let at-loop = at-smallest-x .before in
+    let at-shared-slice-known = at-loop .before .before in
+    let at-entry = at-shared-slice-known .before in
+    last-written _ _ _ _ _ (at-loop .loop .inv) _ _ (next-last _ (at-shared-slice-known .shared-slice-known .given) (at-entry .pre .0) _ _ (at-smallest-x .smallest-x .ensures) _ (at-f .f .given .1) (c .if1 .taken)) _ (at-put-row .put-row .ensures) refl
 
 pub put-pairs-spec : {M : Type 1} → statement M
 put-pairs-spec =

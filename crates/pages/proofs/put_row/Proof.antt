@@ -6,8 +6,9 @@ use Rattle.pages.proofs.put_row.Tie as tie
 
 returns : tie.Need-returns
 returns c =
-    let p2 = c .before .before in let p6 = p2 .before .before .before .before in
-    one-row _ _ _ _ _ _ (p6 .put-word .ensures) (p2 .put-word2 .ensures)
+    let at-put-word2 = c .before .before in
+    let at-put-word = at-put-word2 .before .before .before .before in
+    one-row _ _ _ _ _ _ (at-put-word .put-word .ensures) (at-put-word2 .put-word2 .ensures)
 
 pub put-row-spec : {M : Type 1} → statement M
 put-row-spec =

@@ -12,8 +12,8 @@ returns-2 c = short _ (c .if2 .taken)
 
 returns-3 : tie.Need-returns-3
 returns-3 c =
-    let p1 = c .before in
-    long _ (p1 .if1 .left) (c .if2 .left)
+    let at-if1 = c .before in
+    long _ (at-if1 .if1 .left) (c .if2 .left)
 
 pub is-pool-spec : {M : Type 1} → statement M
 is-pool-spec = tie.close (tie.spec returns (λ c. search needs) returns-2 (λ c. search needs) (λ c. search needs) returns-3)

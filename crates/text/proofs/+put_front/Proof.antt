@@ -49,8 +49,10 @@ put-front-same-length t c = simp length-set (puts-length (c .before .before .bef
 
 put-front-returns-3 : (t : ℕ) → put-front-lts.Need-returns-3 (put-front-calls t) (put-front-at t) put-front.Post
 put-front-returns-3 t c =
-    let p3 = c .before .before .before in let p5 = p3 .before .before in let p6 = p5 .before in
-    last-digit _ _ _ _ _ _ _ (p6 .if1 .left) (p5 .if2 .left) (p3 .put-front .ensures) (c .glyph .ensures)
+    let at-put-front = c .before .before .before in
+    let at-if2 = at-put-front .before .before in
+    let at-if1 = at-if2 .before in
+    last-digit _ _ _ _ _ _ _ (at-if1 .if1 .left) (at-if2 .if2 .left) (at-put-front .put-front .ensures) (c .glyph .ensures)
 
 pub +put-front-spec : {M : Type 1} → statement M
 +put-front-spec = close μ-put-front λ t. put-front-lts.spec (put-front-calls t) (put-front-at t) put-front.Post

@@ -32,8 +32,9 @@ same-length c = puts-length (c .before .loop .inv .put)
 
 returns : tie.Need-returns Inv-loop μ-loop
 returns c =
-    let p1 = c .before in let p2 = p1 .before in
-    all-rows _ _ _ _ _ _ _ _ (p1 .loop .inv) (c .loop-test .left) (p2 .least .ensures)
+    let at-loop = c .before in
+    let at-least = at-loop .before in
+    all-rows _ _ _ _ _ _ _ _ (at-loop .loop .inv) (c .loop-test .left) (at-least .least .ensures)
 
 pub put-matches-spec : {M : Type 1} → statement M
 put-matches-spec =

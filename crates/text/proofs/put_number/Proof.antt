@@ -23,8 +23,8 @@ add-result c = let h = two-left _ _ _ _ _ _ (c .before .before .before .put-fron
 
 returns : tie.Need-returns
 returns c =
-    let p3 = c .before .before .before in
-    number-put _ _ _ _ _ _ _ (p3 .put-front .ensures) (c .glyph .ensures)
+    let at-put-front = c .before .before .before in
+    number-put _ _ _ _ _ _ _ (at-put-front .put-front .ensures) (c .glyph .ensures)
 
 pub put-number-spec : {M : Type 1} → statement M
 put-number-spec =

@@ -16,8 +16,10 @@ put-number-requires-3 c κs = let h = room-behind _ _ _ _ _ _ 22 (c .before .bef
 
 returns : tie.Need-returns
 returns c =
-    let p2 = c .before .before in let p6 = p2 .before .before .before .before in let p10 = p6 .before .before .before .before in
-    puts-then (p10 .put-number .ensures) (puts-then (p6 .put-number2 .ensures) (p2 .put-number3 .ensures))
+    let at-put-number3 = c .before .before in
+    let at-put-number2 = at-put-number3 .before .before .before .before in
+    let at-put-number = at-put-number2 .before .before .before .before in
+    puts-then (at-put-number .put-number .ensures) (puts-then (at-put-number2 .put-number2 .ensures) (at-put-number3 .put-number3 .ensures))
 
 pub put-strip-spec : {M : Type 1} → statement M
 put-strip-spec =

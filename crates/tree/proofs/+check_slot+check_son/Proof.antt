@@ -66,8 +66,12 @@ check-slot-check-son-requires t c κs = (omega (arith, c .before .before .before
 
 check-slot-returns : (t : ℕ) → check-slot-lts.Need-returns (check-slot-calls t) (check-slot-at t) check-slot.Post
 check-slot-returns t c =
-    let p2 = c .before .before in let p3 = p2 .before in let p4 = p3 .before in let p5 = p4 .before in let p6 = p5 .before in
-    left-faulty _ _ _ _ _ _ _ (p6 .pair .ensures) (p5 .left .ensures) (p4 .right .ensures) _ _ (p3 .left2 .ensures) (p2 .check-son .ensures) (c .enum-told .given .1)
+    let at-check-son = c .before .before in
+    let at-left2 = at-check-son .before in
+    let at-right = at-left2 .before in
+    let at-left = at-right .before in
+    let at-pair = at-left .before in
+    left-faulty _ _ _ _ _ _ _ (at-pair .pair .ensures) (at-left .left .ensures) (at-right .right .ensures) _ _ (at-left2 .left2 .ensures) (at-check-son .check-son .ensures) (c .enum-told .given .1)
 
 check-slot-right-requires-2 : (t : ℕ) → check-slot-lts.Need-right-requires-2 (check-slot-calls t) (check-slot-at t) check-slot.Post
 check-slot-right-requires-2 t c κs = c .before .before .before .before .before .before .before .before .before .pre .1 .2
@@ -77,16 +81,32 @@ check-slot-check-son-requires-2 t c κs = (omega (arith, c .before .before .befo
 
 check-slot-returns-2 : (t : ℕ) → check-slot-lts.Need-returns-2 (check-slot-calls t) (check-slot-at t) check-slot.Post
 check-slot-returns-2 t c =
-    let p2 = c .before .before in let p3 = p2 .before in let p5 = p3 .before .before in let p7 = p5 .before .before in let p8 = p7 .before in let p9 = p8 .before in let p10 = p9 .before in let p11 = p10 .before in
-    right-faulty _ _ _ _ _ _ _ (p11 .pair .ensures) (p10 .left .ensures) (p9 .right .ensures) _ _ (p8 .left2 .ensures) (p7 .check-son .ensures) _ (p5 .a .given .1) _ _ (p3 .right2 .ensures) (p2 .check-son2 .ensures) (c .enum-told2 .given .1)
+    let at-check-son2 = c .before .before in
+    let at-right2 = at-check-son2 .before in
+    let at-a = at-right2 .before .before in
+    let at-check-son = at-a .before .before in
+    let at-left2 = at-check-son .before in
+    let at-right = at-left2 .before in
+    let at-left = at-right .before in
+    let at-pair = at-left .before in
+    right-faulty _ _ _ _ _ _ _ (at-pair .pair .ensures) (at-left .left .ensures) (at-right .right .ensures) _ _ (at-left2 .left2 .ensures) (at-check-son .check-son .ensures) _ (at-a .a .given .1) _ _ (at-right2 .right2 .ensures) (at-check-son2 .check-son2 .ensures) (c .enum-told2 .given .1)
 
 check-slot-again-requires : (t : ℕ) → check-slot-lts.Need-again-requires (check-slot-calls t) (check-slot-at t) check-slot.Post
 check-slot-again-requires t c κs = (may-search _ _ _ _ _ _ _ _ (c .before .before .before .before .before .before .before .before .check-son .ensures) (c .before .before .before .before .before .before .a .given .1) (c .before .before .before .before .before .before .before .before .before .before .before .before .before .before .pre .1 .2), may-search _ _ _ _ _ _ _ _ (c .before .before .before .check-son2 .ensures) (c .before .b .given .1) (c .before .before .before .before .before .before .before .before .before .before .before .before .before .before .pre .1 .2))
 
 check-slot-returns-3 : (t : ℕ) → check-slot-lts.Need-returns-3 (check-slot-calls t) (check-slot-at t) check-slot.Post
 check-slot-returns-3 t c =
-    let p1 = c .before in let p3 = p1 .before .before in let p5 = p3 .before .before in let p6 = p5 .before in let p8 = p6 .before .before in let p10 = p8 .before .before in let p11 = p10 .before in let p12 = p11 .before in let p13 = p12 .before in let p14 = p13 .before in
-    again-faulty _ _ _ _ _ _ _ (p14 .pair .ensures) (p13 .left .ensures) (p12 .right .ensures) _ _ (p11 .left2 .ensures) (p10 .check-son .ensures) _ (p8 .a .given .1) _ _ (p6 .right2 .ensures) (p5 .check-son2 .ensures) _ (p3 .b .given .1) _ (p1 .again .ensures) (c .if1 .taken)
+    let at-again = c .before in
+    let at-b = at-again .before .before in
+    let at-check-son2 = at-b .before .before in
+    let at-right2 = at-check-son2 .before in
+    let at-a = at-right2 .before .before in
+    let at-check-son = at-a .before .before in
+    let at-left2 = at-check-son .before in
+    let at-right = at-left2 .before in
+    let at-left = at-right .before in
+    let at-pair = at-left .before in
+    again-faulty _ _ _ _ _ _ _ (at-pair .pair .ensures) (at-left .left .ensures) (at-right .right .ensures) _ _ (at-left2 .left2 .ensures) (at-check-son .check-son .ensures) _ (at-a .a .given .1) _ _ (at-right2 .right2 .ensures) (at-check-son2 .check-son2 .ensures) _ (at-b .b .given .1) _ (at-again .again .ensures) (c .if1 .taken)
 
 check-slot-add-t14 : (t : ℕ) → check-slot-lts.Need-add-t14 (check-slot-calls t) (check-slot-at t) check-slot.Post
 check-slot-add-t14 t c =
@@ -102,8 +122,17 @@ check-slot-add-t15 t c =
 
 check-slot-returns-4 : (t : ℕ) → check-slot-lts.Need-returns-4 (check-slot-calls t) (check-slot-at t) check-slot.Post
 check-slot-returns-4 t c =
-    let p1 = c .before in let p3 = p1 .before .before in let p5 = p3 .before .before in let p6 = p5 .before in let p8 = p6 .before .before in let p10 = p8 .before .before in let p11 = p10 .before in let p12 = p11 .before in let p13 = p12 .before in let p14 = p13 .before in
-    both-counted _ _ _ _ _ _ _ (p14 .pair .ensures) (p13 .left .ensures) (p12 .right .ensures) _ _ (p11 .left2 .ensures) (p10 .check-son .ensures) _ (p8 .a .given .1) _ _ (p6 .right2 .ensures) (p5 .check-son2 .ensures) _ (p3 .b .given .1) _ (p1 .again .ensures) (c .if1 .left)
+    let at-again = c .before in
+    let at-b = at-again .before .before in
+    let at-check-son2 = at-b .before .before in
+    let at-right2 = at-check-son2 .before in
+    let at-a = at-right2 .before .before in
+    let at-check-son = at-a .before .before in
+    let at-left2 = at-check-son .before in
+    let at-right = at-left2 .before in
+    let at-left = at-right .before in
+    let at-pair = at-left .before in
+    both-counted _ _ _ _ _ _ _ (at-pair .pair .ensures) (at-left .left .ensures) (at-right .right .ensures) _ _ (at-left2 .left2 .ensures) (at-check-son .check-son .ensures) _ (at-a .a .given .1) _ _ (at-right2 .right2 .ensures) (at-check-son2 .check-son2 .ensures) _ (at-b .b .given .1) _ (at-again .again .ensures) (c .if1 .left)
 
 check-son-sub-check-slot : (t : ℕ) → check-son-lts.Need-sub-check-slot (check-son-calls t) (check-son-at t) check-son.Post
 check-son-sub-check-slot t c = let d = son-fork _ _ _ _ _ (c .before .before .place-of .ensures) (c .enum-told3 .given .1) .deep in omega arith
@@ -116,23 +145,24 @@ check-son-check-slot-requires t c κs =
 
 check-son-returns : (t : ℕ) → check-son-lts.Need-returns (check-son-calls t) (check-son-at t) check-son.Post
 check-son-returns t c =
-    let p2 = c .before .before in
-    son-empty _ _ _ _ _ (p2 .place-of .ensures) (c .enum-told .given .1)
+    let at-place-of = c .before .before in
+    son-empty _ _ _ _ _ (at-place-of .place-of .ensures) (c .enum-told .given .1)
 
 check-son-returns-2 : (t : ℕ) → check-son-lts.Need-returns-2 (check-son-calls t) (check-son-at t) check-son.Post
 check-son-returns-2 t c =
-    let p2 = c .before .before in
-    son-leaf _ _ _ _ _ (p2 .place-of .ensures) (c .enum-told2 .given .1)
+    let at-place-of = c .before .before in
+    son-leaf _ _ _ _ _ (at-place-of .place-of .ensures) (c .enum-told2 .given .1)
 
 check-son-returns-3 : (t : ℕ) → check-son-lts.Need-returns-3 (check-son-calls t) (check-son-at t) check-son.Post
 check-son-returns-3 t c =
-    let p1 = c .before in let p3 = p1 .before .before in
-    fork-there _ _ _ _ _ _ (son-fork _ _ _ _ _ (p3 .place-of .ensures) (p1 .enum-told3 .given .1)) (c .check-slot .ensures)
+    let at-enum-told3 = c .before in
+    let at-place-of = at-enum-told3 .before .before in
+    fork-there _ _ _ _ _ _ (son-fork _ _ _ _ _ (at-place-of .place-of .ensures) (at-enum-told3 .enum-told3 .given .1)) (c .check-slot .ensures)
 
 check-son-returns-4 : (t : ℕ) → check-son-lts.Need-returns-4 (check-son-calls t) (check-son-at t) check-son.Post
 check-son-returns-4 t c =
-    let p2 = c .before .before in
-    son-bad _ _ _ _ _ (p2 .place-of .ensures) (c .enum-told4 .given .1)
+    let at-place-of = c .before .before in
+    son-bad _ _ _ _ _ (at-place-of .place-of .ensures) (c .enum-told4 .given .1)
 
 pub +check-slot+check-son-spec : {M : Type 1} → statement M
 +check-slot+check-son-spec = close μ-check-slot μ-check-son (λ t. check-slot-lts.spec (check-slot-calls t) (check-slot-at t) check-slot.Post

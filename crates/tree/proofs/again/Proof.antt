@@ -7,23 +7,27 @@ use Rattle.tree.proofs.again.Tie as tie
 
 met-requires : tie.Need-met-requires
 met-requires c κs =
-    let p4 = c .before .before .before .before in
-    record { leads = p4 .pre .0 .leads; low = low-left (p4 .pre .0 .low) (c .left .ensures) }
+    let at-entry = c .before .before .before .before in
+    record { leads = at-entry .pre .0 .leads; low = low-left (at-entry .pre .0 .low) (c .left .ensures) }
 
 returns : tie.Need-returns
 returns c =
-    let p1 = c .before in let p2 = p1 .before in let p3 = p2 .before in
-    alone-left _ _ _ _ _ _ _ (p3 .goes-left .ensures) (p2 .if1 .taken) (p1 .left .ensures) (c .met .ensures)
+    let at-left = c .before in
+    let at-if1 = at-left .before in
+    let at-goes-left = at-if1 .before in
+    alone-left _ _ _ _ _ _ _ (at-goes-left .goes-left .ensures) (at-if1 .if1 .taken) (at-left .left .ensures) (c .met .ensures)
 
 met-requires-2 : tie.Need-met-requires-2
 met-requires-2 c κs =
-    let p4 = c .before .before .before .before in
-    record { leads = p4 .pre .1 .leads; low = low-right (p4 .pre .0 .low) (c .right .ensures) }
+    let at-entry = c .before .before .before .before in
+    record { leads = at-entry .pre .1 .leads; low = low-right (at-entry .pre .0 .low) (c .right .ensures) }
 
 returns-2 : tie.Need-returns-2
 returns-2 c =
-    let p1 = c .before in let p2 = p1 .before in let p3 = p2 .before in
-    alone-right _ _ _ _ _ _ _ (p3 .goes-left .ensures) (p2 .if1 .left) (p1 .right .ensures) (c .met2 .ensures)
+    let at-right = c .before in
+    let at-if1 = at-right .before in
+    let at-goes-left = at-if1 .before in
+    alone-right _ _ _ _ _ _ _ (at-goes-left .goes-left .ensures) (at-if1 .if1 .left) (at-right .right .ensures) (c .met2 .ensures)
 
 pub again-spec : {M : Type 1} → statement M
 again-spec =

@@ -10,21 +10,29 @@ use Rattle.tree.proofs.check_root.Tie as tie
 
 returns : tie.Need-returns
 returns c =
-    let p1 = c .before in
-    no-root _ _ (p1 .root .ensures) (c .if1 .taken)
+    let at-root = c .before in
+    no-root _ _ (at-root .root .ensures) (c .if1 .taken)
 
 returns-2 : tie.Need-returns-2
 returns-2 c =
-    let p1 = c .before in let p2 = p1 .before in let p3 = p2 .before in let p4 = p3 .before in
-    bad-root _ _ (p4 .root .ensures) (p3 .if1 .left) _ _ (p2 .root2 .ensures) (p1 .slot-fine .ensures) (not-true _ (c .if2 .taken))
+    let at-slot-fine = c .before in
+    let at-root2 = at-slot-fine .before in
+    let at-if1 = at-root2 .before in
+    let at-root = at-if1 .before in
+    bad-root _ _ (at-root .root .ensures) (at-if1 .if1 .left) _ _ (at-root2 .root2 .ensures) (at-slot-fine .slot-fine .ensures) (not-true _ (c .if2 .taken))
 
 check-slot-requires : tie.Need-check-slot-requires
 check-slot-requires c κs = (fine-fits _ _ _ _ (omega (arith, c .before .before .before .before .if1 .left)) (c .before .before .slot-fine .ensures) (not-false _ (c .before .if2 .left)), omega arith, low-root (c .root3 .ensures))
 
 returns-3 : tie.Need-returns-3
 returns-3 c =
-    let p1 = c .before in let p2 = p1 .before in let p3 = p2 .before in let p4 = p3 .before in let p5 = p4 .before in let p6 = p5 .before in
-    good-root _ _ (p6 .root .ensures) (p5 .if1 .left) _ _ (p4 .root2 .ensures) (p3 .slot-fine .ensures) _ _ (not-false _ (p2 .if2 .left)) (p1 .root3 .ensures) (c .check-slot .ensures)
+    let at-root3 = c .before in
+    let at-if2 = at-root3 .before in
+    let at-slot-fine = at-if2 .before in
+    let at-root2 = at-slot-fine .before in
+    let at-if1 = at-root2 .before in
+    let at-root = at-if1 .before in
+    good-root _ _ (at-root .root .ensures) (at-if1 .if1 .left) _ _ (at-root2 .root2 .ensures) (at-slot-fine .slot-fine .ensures) _ _ (not-false _ (at-if2 .if2 .left)) (at-root3 .root3 .ensures) (c .check-slot .ensures)
 
 pub check-root-spec : {M : Type 1} → statement M
 check-root-spec =

@@ -6,8 +6,8 @@ use Rattle.kinds.proofs.Pair.beats.Tie as tie
 
 returns : tie.Need-returns
 returns c =
-    let p1 = c .before in
-    beats-by-key _ _ (p1 .key .ensures) (c .key2 .ensures)
+    let at-key = c .before in
+    beats-by-key _ _ (at-key .key .ensures) (c .key2 .ensures)
 
 pub beats-spec : {M : Type 1} → statement M
 beats-spec = tie.close (tie.spec (λ c κs. search needs) (λ c κs. search needs) returns)

@@ -8,14 +8,16 @@ use Rattle.kinds.proofs.Stripe.towards.Tie as tie
 returns : tie.Need-returns
 unfolding partOf
 returns c =
-    let p1 = c .before in let p2 = p1 .before in
-    rw (sym (p2 .goes-left .ensures) ∙ p1 .if1 .taken) (c .left .ensures)
+    let at-if1 = c .before in
+    let at-goes-left = at-if1 .before in
+    rw (sym (at-goes-left .goes-left .ensures) ∙ at-if1 .if1 .taken) (c .left .ensures)
 
 returns-2 : tie.Need-returns-2
 unfolding partOf
 returns-2 c =
-    let p1 = c .before in let p2 = p1 .before in
-    rw (sym (p2 .goes-left .ensures) ∙ p1 .if1 .left) (c .right .ensures)
+    let at-if1 = c .before in
+    let at-goes-left = at-if1 .before in
+    rw (sym (at-goes-left .goes-left .ensures) ∙ at-if1 .if1 .left) (c .right .ensures)
 
 pub towards-spec : {M : Type 1} → statement M
 towards-spec =
