@@ -7,12 +7,14 @@ use mathlib.Core.List.{List, [], _∷_}
 use borrow.Author.Tests.{eq-eqb, ne-eqb}
 use Rattle.kinds.specs.declared.Pair.{Pair}
 use Rattle.kinds.specs.declared.Answer.{Answer}
-use Rattle.kinds.specs.Answer.{ended}
+use Rattle.kinds.specs.Answer.{refused, ended}
 use Rattle.kinds.specs.Codes as codes
-use Rattle.kinds.proofs.Tables.{gives, refuses, accepts, decides}
+use Rattle.kinds.specs.Promise.{Promise, Changes, behind, firstCode}
+use Rattle.kinds.proofs.Tables.{gives, refuses, accepts, decides, refuses-code}
 use Rattle.plain.specs.Books.{takenLine, fullLine, missingLine, otherLine, plainInsert, plainDelete}
 use Rattle.plain.specs.Plain.{hasX, has}
-use Rattle.plain.specs.Strips.{noStrip, stripPair, stripLine, plainOpen, plainClose}
+use Rattle.plain.specs.Strips.{stripPair, stripLines, plainOpen, plainClose}
+use Rattle.strip.proofs.Fitting.{strip-off}
 use Rattle.pools.specs.Cells.{freeOf, stored, bookOf}
 use Rattle.pools.specs.Laid.{inserted}
 use Rattle.pools.specs.Sound.{Sound}
@@ -78,21 +80,26 @@ module _ (c : List ℕ) (p : Pair) (s : Sound c) where
         sound = deleted-sound s p m;
       })
 
-module _ (c : List ℕ) (start end number : ℕ) {b : Bool} (eb : b ≡ noStrip start end number) where
-  pub open-refused : Sound c → b ≡ true → Changed (opening c start end number) c (ended codes.noStrip) c
-  unfolding opening plainOpen ended
-  open-refused s t = record { keeps = refuses [] (stripLine (noStrip start end number)) _ tt (sym eb ∙ t) refl; sound = s }
+module _ (c : List ℕ) (start end number : ℕ) {k : ℕ} (e : k ≡ firstCode (stripLines start end number)) where
+  -- what opening and closing share: the code of the strip's numbers refuses, and where it is 0 the pair's change decides
+  code-refuses : (P : Promise) → (k ≡ 0 → ⊥) → Changes (behind (stripLines start end number) P) c (ended k) c
+  unfolding ended
+  code-refuses P n = refuses-code (stripLines start end number) P (λ z. n (e ∙ z)) (rw (ne-eqb k 0 n) (ap refused e))
 
-  pub open-made : b ≡ false → {r : Answer} {d : List ℕ} → Changed (insertion c (stripPair start end number)) c r d
+  pub open-refused : Sound c → (k ≡ 0 → ⊥) → Changed (opening c start end number) c (ended k) c
+  unfolding opening plainOpen insertion plainInsert
+  open-refused s n = record { keeps = code-refuses (insertion c (stripPair start end number)) n; sound = s }
+
+  pub open-made : k ≡ 0 → {r : Answer} {d : List ℕ} → Changed (insertion c (stripPair start end number)) c r d
       → Changed (opening c start end number) c r d
   unfolding opening plainOpen insertion plainInsert
-  open-made f h = record { keeps = decides (stripLine (noStrip start end number) ∷ []) (sym eb ∙ f, tt) (h .keeps); sound = h .sound }
+  open-made z h = record { keeps = decides (stripLines start end number) (strip-off start end number (sym e ∙ z)) (h .keeps); sound = h .sound }
 
-  pub close-refused : Sound c → b ≡ true → Changed (closing c start end number) c (ended codes.noStrip) c
-  unfolding closing plainClose ended
-  close-refused s t = record { keeps = refuses [] (stripLine (noStrip start end number)) _ tt (sym eb ∙ t) refl; sound = s }
+  pub close-refused : Sound c → (k ≡ 0 → ⊥) → Changed (closing c start end number) c (ended k) c
+  unfolding closing plainClose deletion plainDelete
+  close-refused s n = record { keeps = code-refuses (deletion c (stripPair start end number)) n; sound = s }
 
-  pub close-made : b ≡ false → {r : Answer} {d : List ℕ} → Changed (deletion c (stripPair start end number)) c r d
+  pub close-made : k ≡ 0 → {r : Answer} {d : List ℕ} → Changed (deletion c (stripPair start end number)) c r d
       → Changed (closing c start end number) c r d
   unfolding closing plainClose deletion plainDelete
-  close-made f h = record { keeps = decides (stripLine (noStrip start end number) ∷ []) (sym eb ∙ f, tt) (h .keeps); sound = h .sound }
+  close-made z h = record { keeps = decides (stripLines start end number) (strip-off start end number (sym e ∙ z)) (h .keeps); sound = h .sound }

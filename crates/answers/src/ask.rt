@@ -1,5 +1,4 @@
 // The questions for one pair, and for one strip.
-use super::shape;
 use kinds::Answer;
 use kinds::codes;
 ghost use Rattle.kinds.specs.Promise.{Answers};
@@ -45,10 +44,12 @@ pub fn first_to_end(pool: &[u32], u: u32) -> Answer
     requires { ⌜ Sound (now pool) ⌝ }
     ensures { λ r. ⌜ Answers (firstToEnd (now (pool .entry)) u) (now (pool .entry)) r ⌝ }
 {
-    if shape::over(u) {
-        return Answer::refused(codes::NO_STRIP);
+    let code = strip::slot_code(u);
+    if code != codes::DONE {
+        return Answer::refused(code);
     }
-    Answer::walked(nearest::smallest_x(pool, u * shape::PER_END, shape::LAST_X, u))
+    let q = strip::covers(u);
+    Answer::walked(nearest::smallest_x(pool, q.x0, q.x1, q.y1))
 }
 
 // The strip that covers slot u and ends last, no later than e.
@@ -56,18 +57,12 @@ pub fn last_to_end(pool: &[u32], u: u32, e: u32) -> Answer
     requires { ⌜ Sound (now pool) ⌝ }
     ensures { λ r. ⌜ Answers (lastToEnd (now (pool .entry)) u e) (now (pool .entry)) r ⌝ }
 {
-    if shape::either_over(u, e) {
-        return Answer::refused(codes::NO_STRIP);
+    let code = strip::slots_code(u, e);
+    if code != codes::DONE {
+        return Answer::refused(code);
     }
-    if e < u {
-        return Answer::refused(codes::BACKWARDS);
-    }
-    Answer::walked(nearest::largest_x(
-        pool,
-        u * shape::PER_END,
-        e * shape::PER_END + shape::LARGEST,
-        u,
-    ))
+    let q = strip::last(u, e);
+    Answer::walked(nearest::largest_x(pool, q.x0, q.x1, q.y1))
 }
 
 // Of the strips that end in u..v, the one with the earliest start.
@@ -75,15 +70,10 @@ pub fn earliest_start(pool: &[u32], u: u32, v: u32) -> Answer
     requires { ⌜ Sound (now pool) ⌝ }
     ensures { λ r. ⌜ Answers (earliestStart (now (pool .entry)) u v) (now (pool .entry)) r ⌝ }
 {
-    if shape::either_over(u, v) {
-        return Answer::refused(codes::NO_STRIP);
+    let code = strip::slots_code(u, v);
+    if code != codes::DONE {
+        return Answer::refused(code);
     }
-    if v < u {
-        return Answer::refused(codes::BACKWARDS);
-    }
-    Answer::walked(lowest::smallest_y(
-        pool,
-        u * shape::PER_END,
-        v * shape::PER_END + shape::LARGEST,
-    ))
+    let q = strip::last(u, v);
+    Answer::walked(lowest::smallest_y(pool, q.x0, q.x1))
 }

@@ -1,5 +1,4 @@
 // The changes, each by its code.
-use super::shape;
 use hole::Removal;
 use kinds::Pair;
 use kinds::codes;
@@ -41,16 +40,11 @@ pub fn open(pool: &mut [u32], start: u32, end: u32, number: u32) -> u32
     requires { ⌜ Sound (now pool) ⌝ }
     ensures { λ r. ⌜ Changed (opening (now (pool .entry)) start end number) (now (pool .entry)) (ended r) (now (pool .exit)) ⌝ }
 {
-    if shape::no_strip(start, end, number) {
-        return codes::NO_STRIP;
+    let code = strip::strip_code(start, end, number);
+    if code != codes::DONE {
+        return code;
     }
-    insert(
-        pool,
-        Pair {
-            x: end * shape::PER_END + number,
-            y: start,
-        },
-    )
+    insert(pool, strip::pair(start, end, number))
 }
 
 // Closes a strip: its pair is taken out.
@@ -58,14 +52,9 @@ pub fn close(pool: &mut [u32], start: u32, end: u32, number: u32) -> u32
     requires { ⌜ Sound (now pool) ⌝ }
     ensures { λ r. ⌜ Changed (closing (now (pool .entry)) start end number) (now (pool .entry)) (ended r) (now (pool .exit)) ⌝ }
 {
-    if shape::no_strip(start, end, number) {
-        return codes::NO_STRIP;
+    let code = strip::strip_code(start, end, number);
+    if code != codes::DONE {
+        return code;
     }
-    delete(
-        pool,
-        Pair {
-            x: end * shape::PER_END + number,
-            y: start,
-        },
-    )
+    delete(pool, strip::pair(start, end, number))
 }

@@ -3,7 +3,6 @@ mod ask;
 mod change;
 mod list;
 mod saving;
-mod shape;
 
 pub use ask::earliest_start;
 pub use ask::first_to_end;

@@ -1,16 +1,29 @@
--- The limits of 01's table say what they are to say of every stored pair.
+-- The limits of 01's table say what they are to say of every stored pair, and the x of a strip is of 32 bits. Assumed of a stored pair is only that
+-- its x is.
 use Prim.Native.Nat.{ℕ, _+_, _*_, _≤_, _<_}
 use mathlib.Core.Path.{_≡_}
 use mathlib.Core.Logic.{_↔_}
-use mathlib.Core.Bool.{true}
+use mathlib.Core.Bool.{true, false, _||_}
 use native.Mathlib.Omega.{arith}
-use lib.Dec.{leb}
-use borrow.Author.Tests.{le-leb, leb-true}
+use lib.Dec.{leb, ltb}
+use borrow.Author.Tests.{le-leb, leb-true, ltb-false}
 use Rattle.kinds.specs.declared.Limits.{Limits}
 use Rattle.kinds.specs.declared.Pair.{Pair}
 use Rattle.plain.specs.Plain.{inRange, matches}
-use Rattle.kinds.proofs.Tests.{both}
-use Rattle.plain.specs.Strips.{endOf, Covers, Meets, Contains, coversLimits, lastLimits, meetsLimits, containsLimits}
+use Rattle.kinds.proofs.Tests.{both, neither}
+use Rattle.plain.specs.Strips.{over, badStrip, stripPair, endOf, Covers, Meets, Contains, coversLimits, lastLimits, meetsLimits, containsLimits}
+
+-- law: the numbers of a strip that is not bad fit, so its x is of 32 bits
+module _ (start end number : ℕ) (f : badStrip start end number ≡ false) where
+  pub strip-fits : (end ≤ 65535) × (number ≤ 65535)
+  strip-fits =
+      let a = neither (over start || over end || over number) (ltb end start) f in
+      let b = neither (over start || over end) (over number) (a .0) in
+      let d = neither (over start) (over end) (b .0) in
+      (ltb-false 65535 end (d .1), ltb-false 65535 number (b .1))
+
+  pub strip-small : stripPair start end number .x < 4294967296
+  strip-small = let h = strip-fits in omega arith
 
 pub record Inside (q : Limits) (p : Pair) : Type 0 where
   pub from : q .x0 ≤ p .x

@@ -32,7 +32,7 @@ use Rattle.pools.proofs.Stored.{stored-apart}
 use Rattle.pages.specs.Book.{byX, versionOne, bookBytes, plainSave}
 use Rattle.pages.proofs.Ascending.{byX-mem, byX-rises, rises-one}
 use Rattle.answers.specs.Promises.{walkListed, insertion, deletion, opening, closing, smallestXAsked, largestXAsked, smallestYAsked, firstToEnd, lastToEnd, earliestStart, listingAsked, listCovers, listMeets, listContains, saved}
-use Rattle.answers.proofs.Shapes.{strip-small}
+use Rattle.plain.proofs.Limits.{strip-small}
 use Rattle.runs.specs.Playing.{Same}
 use Rattle.runs.proofs.Fits.{Fits}
 
@@ -107,7 +107,7 @@ module _ {c : List ℕ} {b : Book} (h : Same c b) where
       record {
         lines = rw (hasX-same (p .x), full-same);
         outcome = refl;
-        same = λ n. insert-same p (strip-small start end number refl (n .0)) (n .1 .0) (n .1 .1 .0);
+        same = λ n. insert-same p (strip-small start end number (n .0)) (n .1 .0) (n .1 .1 .0);
         wrote = λ n. refl;
       }
 

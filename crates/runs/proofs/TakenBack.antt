@@ -15,7 +15,7 @@ use Rattle.kinds.specs.Answer.{five, numbersOf}
 use Rattle.kinds.specs.Promise.{Line, Result, Promise, byLines, given, accepted}
 use Rattle.kinds.proofs.Tables.{Decided, decided, refused-same, accepted-made}
 use Rattle.kinds.proofs.Tests.{on, clash}
-use Rattle.plain.specs.Strips.{noStrip, plainOpen, plainClose}
+use Rattle.plain.specs.Strips.{badStrip, plainOpen, plainClose}
 use Rattle.plain.specs.Books.{plainInsert, plainDelete}
 use Rattle.plain.proofs.Having.{true-hasX}
 use Rattle.pools.specs.Cells.{stored}
@@ -29,7 +29,7 @@ use Rattle.sound.specs.Promises as check-first
 use Rattle.sound.specs.Promises.{setUp}
 use Rattle.sound.proofs.Meaning.{set-up-stored}
 use Rattle.answers.specs.Promises.{insertion, deletion, opening, closing, smallestXAsked, largestXAsked, smallestYAsked, firstToEnd, lastToEnd, earliestStart, listingAsked, listCovers, listMeets, listContains, saved}
-use Rattle.answers.proofs.Shapes.{strip-small}
+use Rattle.plain.proofs.Limits.{strip-small}
 use Rattle.pool.proofs.Changes.{inserts, deletes, insert-made, delete-made, insert-accepted, delete-accepted, insert-refused, delete-refused, insert-stored, delete-stored, delete-gone}
 use Rattle.runs.specs.Calls.{Named, pairOf, Call, set-up, check, insert, delete, smallest-x, largest-x, smallest-y, list, opens, closes, first, last, earliest, covers, meets, contains, save, promised, play, SmallX, Each}
 use Rattle.runs.specs.TakingBack.{Reversal, by, needless, anew, reverse, Ran, after, goOn, run, from, takeBack, Gains, Does, Did, TakenBack}
@@ -68,7 +68,7 @@ module _ (c : List ℕ) (p : Pair) where
 -- a strip call is the pool's change of its pair, where the strip's own line does not hold; and so it is where it is accepted
 module _ (c : List ℕ) (n : Named) where
   abbrev bad : Bool
-  bad = noStrip (n .start) (n .end) (n .number)
+  bad = badStrip (n .start) (n .end) (n .number)
 
   open-passed : bad ≡ false → play c (opens n) ≡ inserts c (pairOf n)
   unfolding promised opening plainOpen insertion plainInsert byLines
@@ -102,8 +102,8 @@ module _ (c : List ℕ) (n : Named) where
   unfolding promised closing plainClose five numbersOf
   close-refused f = refused-same close-view refl f
 
-small-x : (n : Named) → noStrip (n .start) (n .end) (n .number) ≡ false → pairOf n .x < 4294967296
-small-x n f = strip-small (n .start) (n .end) (n .number) refl f
+small-x : (n : Named) → badStrip (n .start) (n .end) (n .number) ≡ false → pairOf n .x < 4294967296
+small-x n f = strip-small (n .start) (n .end) (n .number) f
 
 -- what a call leaves is taken back by a call that is accepted
 record Back (c d : List ℕ) (k : Call) : Type 0 where

@@ -1,9 +1,10 @@
--- A slot over 65,535 is refused; else the walk answers.
-use Rattle.answers.proofs.Ways.{slot-over, slot-right}
+-- The code of the slot refuses; else the walk answers, with the limits of covers.
+use mathlib.Core.Path.{sym, _∙_}
 use Rattle.plain.specs.Strips.{plainFirst}
+use Rattle.strip.proofs.Fitting.{slot-fits}
 use Rattle.answers.specs.Promises.{firstToEnd}
+use Rattle.answers.proofs.Ways.{slot-refused, slot-right}
 use Rattle.answers.proofs.Asked.{smallestX-gives}
-use Rattle.answers.proofs.Shapes.{slot-fits}
 use borrow.Author.Needs.{needs}
 use Rattle.answers.proofs.ask.first_to_end.Statement.{statement}
 use Rattle.answers.proofs.ask.first_to_end.Tie as tie
@@ -12,24 +13,26 @@ returns : tie.Need-returns
 unfolding firstToEnd plainFirst
 returns c =
     let at-if1 = c .before in
-    let at-over = at-if1 .before in
-    let at-entry = at-over .before .before in
-    slot-over (at-entry .args .u) (at-over .over .ensures) (at-if1 .if1 .taken) (c .refused .ensures)
+    let at-slot-code = at-if1 .before in
+    let at-entry = at-slot-code .before .before in
+    slot-refused (at-entry .args .u) (at-slot-code .slot-code .ensures) (at-if1 .if1 .taken) (c .refused .ensures)
 
-mul-smallest-x : tie.Need-mul-smallest-x
-mul-smallest-x c =
-    let at-over = c .before in
-    let at-entry = at-over .before .before in
-    let f = slot-fits (at-entry .args .u) (at-over .over .ensures) (c .if1 .left) in search needs
+covers-requires : tie.Need-covers-requires
+covers-requires c κs =
+    let at-slot-code = c .before in
+    let at-entry = at-slot-code .before .before in
+    slot-fits (at-entry .args .u) (sym (at-slot-code .slot-code .ensures) ∙ c .if1 .left)
 
 returns-2 : tie.Need-returns-2
 unfolding firstToEnd plainFirst
 returns-2 c =
     let at-smallest-x = c .before in
-    let at-if1 = at-smallest-x .before in
-    let at-over = at-if1 .before in
-    let at-entry = at-over .before .before in
-    slot-right (at-entry .args .u) (at-over .over .ensures) (at-if1 .if1 .left) (smallestX-gives (at-entry .pre) _ (at-smallest-x .smallest-x .ensures) (c .walked .ensures))
+    let at-covers = at-smallest-x .before in
+    let at-if1 = at-covers .before in
+    let at-slot-code = at-if1 .before in
+    let at-entry = at-slot-code .before .before in
+    slot-right (at-entry .args .u) (at-slot-code .slot-code .ensures) (at-if1 .if1 .left)
+    (rw (at-covers .covers .ensures) at (smallestX-gives (at-entry .pre) _ (at-smallest-x .smallest-x .ensures) (c .walked .ensures)))
 
 pub first-to-end-spec : {M : Type 1} → statement M
 first-to-end-spec =
@@ -38,7 +41,7 @@ first-to-end-spec =
     (λ c κs. search needs)
     (λ c κs. search needs)
     returns
-    mul-smallest-x
+    covers-requires
     (λ c κs. search needs)
     (λ c κs. search needs)
     returns-2)

@@ -1,9 +1,10 @@
--- The slots and their order decide; else the walk answers.
-use Rattle.answers.proofs.Ways.{slots-over, slots-backwards, slots-right}
+-- The code of the slots refuses; else the walk answers, with the limits of last.
+use mathlib.Core.Path.{sym, _∙_}
 use Rattle.plain.specs.Strips.{plainLast}
+use Rattle.strip.proofs.Fitting.{slots-fit}
 use Rattle.answers.specs.Promises.{lastToEnd}
+use Rattle.answers.proofs.Ways.{slots-refused, slots-right}
 use Rattle.answers.proofs.Asked.{largestX-gives}
-use Rattle.answers.proofs.Shapes.{slots-fit}
 use borrow.Author.Needs.{needs}
 use Rattle.answers.proofs.ask.last_to_end.Statement.{statement}
 use Rattle.answers.proofs.ask.last_to_end.Tie as tie
@@ -12,50 +13,26 @@ returns : tie.Need-returns
 unfolding lastToEnd plainLast
 returns c =
     let at-if1 = c .before in
-    let at-either-over = at-if1 .before in
-    let at-entry = at-either-over .before .before in
-    slots-over (at-entry .args .u) (at-entry .args .e) (at-either-over .either-over .ensures) (at-if1 .if1 .taken) (c .refused .ensures)
+    let at-slots-code = at-if1 .before in
+    let at-entry = at-slots-code .before .before in
+    slots-refused (at-entry .args .u) (at-entry .args .e) (at-slots-code .slots-code .ensures) (at-if1 .if1 .taken) (c .refused .ensures)
+
+last-requires : tie.Need-last-requires
+last-requires c κs =
+    let at-slots-code = c .before in
+    let at-entry = at-slots-code .before .before in
+    slots-fit (at-entry .args .u) (at-entry .args .e) (sym (at-slots-code .slots-code .ensures) ∙ c .if1 .left)
 
 returns-2 : tie.Need-returns-2
 unfolding lastToEnd plainLast
 returns-2 c =
-    let at-if2 = c .before in
-    let at-if1 = at-if2 .before in
-    let at-either-over = at-if1 .before in
-    let at-entry = at-either-over .before .before in
-    slots-backwards (at-entry .args .u) (at-entry .args .e) (at-either-over .either-over .ensures) (at-if1 .if1 .left) (at-if2 .if2 .taken) (c .refused2 .ensures)
-
-mul-largest-x : tie.Need-mul-largest-x
-mul-largest-x c =
-    let at-if1 = c .before in
-    let at-either-over = at-if1 .before in
-    let at-entry = at-either-over .before .before in
-    let f = slots-fit (at-entry .args .u) (at-entry .args .e) (at-either-over .either-over .ensures) (at-if1 .if1 .left) in search needs
-
-mul-largest-x-2 : tie.Need-mul-largest-x-2
-mul-largest-x-2 c =
-    let at-if1 = c .before in
-    let at-either-over = at-if1 .before in
-    let at-entry = at-either-over .before .before in
-    let f = slots-fit (at-entry .args .u) (at-entry .args .e) (at-either-over .either-over .ensures) (at-if1 .if1 .left) in search needs
-
-add-largest-x : tie.Need-add-largest-x
-add-largest-x c =
-    let at-if1 = c .before in
-    let at-either-over = at-if1 .before in
-    let at-entry = at-either-over .before .before in
-    let f = slots-fit (at-entry .args .u) (at-entry .args .e) (at-either-over .either-over .ensures) (at-if1 .if1 .left) in search needs
-
-returns-3 : tie.Need-returns-3
-unfolding lastToEnd plainLast
-returns-3 c =
     let at-largest-x = c .before in
-    let at-if2 = at-largest-x .before in
-    let at-if1 = at-if2 .before in
-    let at-either-over = at-if1 .before in
-    let at-entry = at-either-over .before .before in
-    slots-right (at-entry .args .u) (at-entry .args .e) (at-either-over .either-over .ensures) (at-if1 .if1 .left) (at-if2 .if2 .left)
-    (largestX-gives (at-entry .pre) _ (at-largest-x .largest-x .ensures) (c .walked .ensures))
+    let at-last = at-largest-x .before in
+    let at-if1 = at-last .before in
+    let at-slots-code = at-if1 .before in
+    let at-entry = at-slots-code .before .before in
+    slots-right (at-entry .args .u) (at-entry .args .e) (at-slots-code .slots-code .ensures) (at-if1 .if1 .left)
+    (rw (at-last .last .ensures) at (largestX-gives (at-entry .pre) _ (at-largest-x .largest-x .ensures) (c .walked .ensures)))
 
 pub last-to-end-spec : {M : Type 1} → statement M
 last-to-end-spec =
@@ -64,11 +41,7 @@ last-to-end-spec =
     (λ c κs. search needs)
     (λ c κs. search needs)
     returns
-    (λ c κs. search needs)
-    returns-2
-    mul-largest-x
-    mul-largest-x-2
-    add-largest-x
+    last-requires
     (λ c κs. search needs)
     (λ c κs. search needs)
-    returns-3)
+    returns-2)
