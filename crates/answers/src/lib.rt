@@ -1,9 +1,4 @@
 // Every call on a pool that has been checked: what it refuses after 2, what it answers, what it leaves, and that the pool is sound again.
-mod ask;
-mod change;
-mod list;
-mod saving;
-
 pub use ask::earliest_start;
 pub use ask::first_to_end;
 pub use ask::largest_x;
@@ -14,8 +9,8 @@ pub use change::close;
 pub use change::delete;
 pub use change::insert;
 pub use change::open;
-pub use list::list_contains;
-pub use list::list_covers;
-pub use list::list_meets;
-pub use list::listing;
-pub use saving::save;
+pub use lend::list_contains;
+pub use lend::list_covers;
+pub use lend::list_meets;
+pub use lend::listing;
+pub use lend::save;

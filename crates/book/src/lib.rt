@@ -3,7 +3,7 @@ use kinds::Answer;
 use kinds::codes;
 ghost use Rattle.kinds.specs.Promise.{Writes};
 ghost use Rattle.sound.specs.Promises.{behindCheck};
-ghost use Rattle.answers.specs.Promises.{saved};
+ghost use Rattle.promises.specs.Promises.{saved};
 
 // Writes the stored book from the first byte on; bytes beyond it stay.
 pub fn save(pool: &[u32], bytes: &mut [u8]) -> Answer

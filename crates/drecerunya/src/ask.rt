@@ -2,7 +2,7 @@
 ghost use mathlib.Core.List.{[]};
 ghost use Rattle.plain.specs.Plain.{limits};
 ghost use Rattle.sound.specs.Promises.{behindCheck};
-ghost use Rattle.answers.specs.Promises.{smallestXAsked, largestXAsked, smallestYAsked, firstToEnd, lastToEnd, earliestStart};
+ghost use Rattle.promises.specs.Promises.{smallestXAsked, largestXAsked, smallestYAsked, firstToEnd, lastToEnd, earliestStart};
 ghost use Rattle.told.specs.Told.{Tells};
 
 // Of the pairs with x0 ≤ x ≤ x1 and y ≤ y1, the one with the smallest x.

@@ -1,7 +1,7 @@
 // The calls that change what is stored.
 ghost use mathlib.Core.List.{[]};
 ghost use Rattle.sound.specs.Promises.{behindCheck};
-ghost use Rattle.answers.specs.Promises.{insertion, deletion, opening, closing};
+ghost use Rattle.promises.specs.Promises.{insertion, deletion, opening, closing};
 ghost use Rattle.told.specs.Told.{Tells};
 
 // Stores the pair [x, y].

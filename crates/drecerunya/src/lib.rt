@@ -18,7 +18,7 @@ pub use list::drecerunya_list_covers;
 pub use list::drecerunya_list_meets;
 pub use list::drecerunya_listing;
 ghost use Rattle.sound.specs.Promises.{behindCheck, setUp, check};
-ghost use Rattle.answers.specs.Promises.{saved};
+ghost use Rattle.promises.specs.Promises.{saved};
 ghost use Rattle.told.specs.Told.{Tells, TellsCode};
 
 // Lays out a pool with nothing stored, whatever its cells held.

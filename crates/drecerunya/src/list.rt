@@ -1,7 +1,7 @@
 // The lists, into a second lent slice.
 ghost use Rattle.plain.specs.Plain.{limits};
 ghost use Rattle.sound.specs.Promises.{behindCheck};
-ghost use Rattle.answers.specs.Promises.{listingAsked, listCovers, listMeets, listContains};
+ghost use Rattle.promises.specs.Promises.{listingAsked, listCovers, listMeets, listContains};
 ghost use Rattle.told.specs.Told.{Tells};
 
 // The pairs with x0 ≤ x ≤ x1 and y ≤ y1, two cells each from the slice's start, as many as it has room for.

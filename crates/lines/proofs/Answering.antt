@@ -18,8 +18,8 @@ use Rattle.kinds.proofs.Numbers.{ended-numbers}
 use Rattle.kinds.proofs.Placing.{placed-start}
 use Rattle.pools.specs.Sound.{Sound}
 use Rattle.sound.proofs.Lines.{sound-verdict, verdict-sound, entry-passed, entry-refused, entry-ended}
-use Rattle.answers.specs.Promises.{opening, closing, firstToEnd, lastToEnd, listCovers}
-use Rattle.answers.specs.Checked.{Changed}
+use Rattle.promises.specs.Promises.{opening, closing, firstToEnd, lastToEnd, listCovers}
+use Rattle.promises.specs.Checked.{Changed}
 use Rattle.line.specs.declared.Asked.{Asked}
 use Rattle.line.specs.declared.Asked.the-variants.{Open, Close, First, Last, Covers, Malformed}
 use Rattle.line.specs.Line.{space, askedBy}

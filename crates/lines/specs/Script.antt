@@ -10,7 +10,7 @@ use Rattle.kinds.specs.Answer.{five}
 use Rattle.kinds.specs.Codes as codes
 use Rattle.kinds.specs.Promise.{Result, Promise, given}
 use Rattle.sound.specs.Promises.{behindCheck}
-use Rattle.answers.specs.Promises.{opening, closing, firstToEnd, lastToEnd, listCovers}
+use Rattle.promises.specs.Promises.{opening, closing, firstToEnd, lastToEnd, listCovers}
 use Rattle.line.specs.declared.Asked.{Asked}
 use Rattle.line.specs.declared.Asked.the-variants.{Open, Close, First, Last, Covers, Malformed}
 use Rattle.line.specs.Line.{askedBy}

@@ -24,7 +24,7 @@ use Rattle.sound.proofs.Lengths.{odd, short, long}
 use Rattle.sound.proofs.Meaning as meaning
 use Rattle.plain.specs.Books.{plainInsert, plainDelete, plainSmallestX, plainLargestX, plainSmallestY, plainListing}
 use Rattle.plain.specs.Strips.{plainOpen, plainClose, plainFirst, plainCovers}
-use Rattle.answers.specs.Promises.{insertion, deletion, largestXAsked, smallestXAsked, smallestYAsked, listingAsked, opening, closing, firstToEnd, listCovers}
+use Rattle.promises.specs.Promises.{insertion, deletion, largestXAsked, smallestXAsked, smallestYAsked, listingAsked, opening, closing, firstToEnd, listCovers}
 use Rattle.sound.specs.Promises as check-first
 use Rattle.runs.specs.Calls.{Call, set-up, check, insert, delete, smallest-x, largest-x, smallest-y, list, opens, closes, first, last, earliest, covers, meets, contains, save, promised, lentBy, Each}
 use Rattle.marked.specs.Cases.{Serves, Refuses, Holds, cases}

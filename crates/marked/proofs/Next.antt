@@ -26,7 +26,7 @@ use Rattle.kinds.specs.Promise.{given}
 use Rattle.plain.specs.Books.{plainSmallestX, plainLargestX, plainSmallestY}
 use Rattle.sound.specs.Promises.{behindCheck}
 use Rattle.sound.proofs.Lines.{entry-made}
-use Rattle.answers.specs.Promises.{smallestXAsked, largestXAsked, smallestYAsked, listingAsked}
+use Rattle.promises.specs.Promises.{smallestXAsked, largestXAsked, smallestYAsked, listingAsked}
 use Rattle.pool.specs.Showing.{Shows}
 use Rattle.pool.proofs.Changes.{inserts, deletes, insert-accepted, insert-sound, insert-stored, delete-accepted, delete-sound, delete-gone}
 use Rattle.pool.proofs.Shown.{listing-shows}

@@ -23,7 +23,7 @@ use Rattle.sound.specs.Promises.{setUp}
 use Rattle.plain.specs.Books.{plainInsert, plainDelete, plainSmallestX, plainLargestX, plainSmallestY, plainListing}
 use Rattle.plain.specs.Strips.{plainOpen, plainClose, plainFirst, plainLast, plainEarliest, plainCovers, plainMeets, plainContains}
 use Rattle.pages.specs.Book.{byX, bookBytes, plainSave}
-use Rattle.answers.specs.Promises.{insertion, deletion, smallestXAsked, largestXAsked, smallestYAsked, listingAsked, opening, closing, firstToEnd, lastToEnd, earliestStart, listCovers, listMeets, listContains, saved}
+use Rattle.promises.specs.Promises.{insertion, deletion, smallestXAsked, largestXAsked, smallestYAsked, listingAsked, opening, closing, firstToEnd, lastToEnd, earliestStart, listCovers, listMeets, listContains, saved}
 use Rattle.runs.specs.Calls.{promised}
 use Rattle.marked.specs.Wrong.{Kind, set-ups, inserts, deletes, smallest-xs, largest-xs, smallest-ys, listings, openings, closings, firsts, lasts, earliests, coverings, meetings, containings, checks, saves}
 use Rattle.marked.specs.Samples.{sample, Shown}

@@ -20,7 +20,7 @@ use Rattle.pools.specs.Cells.{stored}
 use Rattle.pages.specs.Book.{plainSave}
 use Rattle.sound.specs.Promises as check-first
 use Rattle.sound.specs.Promises.{setUp}
-use Rattle.answers.specs.Promises.{insertion, deletion, smallestXAsked, largestXAsked, smallestYAsked, listingAsked, opening, closing, firstToEnd, lastToEnd, earliestStart, listCovers, listMeets, listContains, saved}
+use Rattle.promises.specs.Promises.{insertion, deletion, smallestXAsked, largestXAsked, smallestYAsked, listingAsked, opening, closing, firstToEnd, lastToEnd, earliestStart, listCovers, listMeets, listContains, saved}
 use Rattle.runs.specs.Calls.{Call, set-up, check, insert, delete, smallest-x, largest-x, smallest-y, list, opens, closes, first, last, earliest, covers, meets, contains, save, promised, lentBy, play, SmallX, Each}
 use Rattle.runs.specs.Playing.{playAll, plainlyAll, Same, Agrees}
 use Rattle.runs.proofs.Played.{plays-all}

@@ -25,8 +25,8 @@ use Rattle.pools.specs.Sound.{Sound}
 use Rattle.pools.proofs.Decided.{test-sound}
 use Rattle.pools.proofs.InTree.{tree-well}
 use Rattle.sound.specs.Promises.{behindCheck}
-use Rattle.answers.specs.Promises.{smallestXAsked, largestXAsked, smallestYAsked, listingAsked}
-use Rattle.answers.proofs.Asked.{matches-count}
+use Rattle.promises.specs.Promises.{smallestXAsked, largestXAsked, smallestYAsked, listingAsked}
+use Rattle.promises.proofs.Asked.{matches-count}
 use Rattle.pool.specs.Showing.{FewVisits}
 
 -- what a table answers has a property that refusals have, if what it makes has it where no line holds

@@ -12,13 +12,12 @@ use Rattle.kinds.specs.Answer.{five, numbersOf}
 use Rattle.kinds.specs.Promise.{Result, NoLine, given, accepted}
 use Rattle.kinds.specs.Stripe.{rootStripe}
 use Rattle.kinds.proofs.Tables.{Decided, decided, none-holds, refused-same, accepted-made, given-either}
-use Rattle.kinds.proofs.Tests.{and-false, on}
+use Rattle.kinds.proofs.Tests.{and-false}
 use Rattle.plain.specs.Books.{plainInsert, plainDelete}
 use Rattle.plain.specs.Plain.{hasX, has}
 use Rattle.trees.specs.Tree.{itself, Mem, bare}
 use Rattle.trees.proofs.Same.{same-set}
 use Rattle.pools.specs.Cells.{freeOf, stored}
-use Rattle.pools.specs.Laid.{inserted, deleted}
 use Rattle.pools.specs.Sound.{Sound}
 use Rattle.pools.proofs.Decided.{test-sound, sound-well}
 use Rattle.pools.proofs.Deleted.{deleted-sound, deleted-stored, deleted-gone}
@@ -28,7 +27,7 @@ use Rattle.pools.proofs.Stored.{stored-mem}
 use Rattle.sound.specs.Promises.{behindCheck}
 use Rattle.sound.proofs.Lines.{no-line}
 use Rattle.down.specs.Down.{Enters}
-use Rattle.answers.specs.Promises.{insertion, deletion}
+use Rattle.promises.specs.Promises.{insertion, deletion}
 
 -- what a deletion that is made may rely on
 pub record Exits (c : List ℕ) (p : Pair) : Type 0 where

@@ -16,13 +16,13 @@ use Rattle.plain.proofs.Those.{those-mem, those-apart}
 use Rattle.trees.specs.Tree.{members}
 use Rattle.walks.specs.Walks.{roomOf, written}
 use Rattle.walks.proofs.Lists.{listing-pairs}
-use Rattle.pools.specs.Cells.{stored, treeOf}
+use Rattle.pools.specs.Cells.{treeOf}
 use Rattle.pools.specs.Sound.{Sound}
 use Rattle.pools.proofs.InTree.{tree-well, members-stored, members-apart}
 use Rattle.sound.specs.Promises.{behindCheck}
 use Rattle.sound.proofs.Lines.{entry-made}
-use Rattle.answers.specs.Promises.{listingAsked}
-use Rattle.answers.proofs.Asked.{matches-count}
+use Rattle.promises.specs.Promises.{listingAsked}
+use Rattle.promises.proofs.Asked.{matches-count}
 use Rattle.pool.specs.Showing.{Shows}
 
 -- what is made of a listing

@@ -4,7 +4,7 @@ use kinds::codes;
 ghost use Rattle.kinds.specs.Promise.{Answers};
 ghost use Rattle.plain.specs.Plain.{limits};
 ghost use Rattle.sound.specs.Promises.{behindCheck};
-ghost use Rattle.answers.specs.Promises.{smallestXAsked, largestXAsked, smallestYAsked};
+ghost use Rattle.promises.specs.Promises.{smallestXAsked, largestXAsked, smallestYAsked};
 
 // Of the pairs with x0 ≤ x ≤ x1 and y ≤ y1, the one with the smallest x.
 pub fn smallest_x(pool: &[u32], x0: u32, x1: u32, y1: u32) -> Answer

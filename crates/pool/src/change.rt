@@ -5,7 +5,7 @@ use kinds::codes;
 ghost use Rattle.kinds.specs.Answer.{ended};
 ghost use Rattle.kinds.specs.Promise.{Changes};
 ghost use Rattle.sound.specs.Promises.{behindCheck};
-ghost use Rattle.answers.specs.Promises.{insertion, deletion};
+ghost use Rattle.promises.specs.Promises.{insertion, deletion};
 
 // Stores the pair [x, y], and gives the code alone.
 pub fn insert_code(pool: &mut [u32], x: u32, y: u32) -> u32

@@ -4,7 +4,7 @@ use kinds::codes;
 ghost use Rattle.kinds.specs.Promise.{Writes};
 ghost use Rattle.plain.specs.Plain.{limits};
 ghost use Rattle.sound.specs.Promises.{behindCheck};
-ghost use Rattle.answers.specs.Promises.{listingAsked};
+ghost use Rattle.promises.specs.Promises.{listingAsked};
 
 // The pairs with x0 ≤ x ≤ x1 and y ≤ y1, two cells each from the slice's start, as many as it has room for.
 pub fn listing(pool: &[u32], x0: u32, x1: u32, y1: u32, out: &mut [u32]) -> Answer

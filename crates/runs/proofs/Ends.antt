@@ -31,7 +31,7 @@ use Rattle.pools.proofs.Inserted.{inserted-sound, inserted-length, inserted-sto
 use Rattle.pools.proofs.Stored.{stored-apart}
 use Rattle.pages.specs.Book.{byX, versionOne, bookBytes, plainSave}
 use Rattle.pages.proofs.Ascending.{byX-mem, byX-rises, rises-one}
-use Rattle.answers.specs.Promises.{walkListed, insertion, deletion, opening, closing, smallestXAsked, largestXAsked, smallestYAsked, firstToEnd, lastToEnd, earliestStart, listingAsked, listCovers, listMeets, listContains, saved}
+use Rattle.promises.specs.Promises.{walkListed, insertion, deletion, opening, closing, smallestXAsked, largestXAsked, smallestYAsked, firstToEnd, lastToEnd, earliestStart, listingAsked, listCovers, listMeets, listContains, saved}
 use Rattle.plain.proofs.Limits.{strip-small}
 use Rattle.runs.specs.Playing.{Same}
 use Rattle.runs.proofs.Fits.{Fits}

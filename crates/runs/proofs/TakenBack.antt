@@ -28,7 +28,7 @@ use Rattle.pools.proofs.TakenBack.{inserted-back, inserted-has, deleted-back, d
 use Rattle.sound.specs.Promises as check-first
 use Rattle.sound.specs.Promises.{setUp}
 use Rattle.sound.proofs.Meaning.{set-up-stored}
-use Rattle.answers.specs.Promises.{insertion, deletion, opening, closing, smallestXAsked, largestXAsked, smallestYAsked, firstToEnd, lastToEnd, earliestStart, listingAsked, listCovers, listMeets, listContains, saved}
+use Rattle.promises.specs.Promises.{insertion, deletion, opening, closing, smallestXAsked, largestXAsked, smallestYAsked, firstToEnd, lastToEnd, earliestStart, listingAsked, listCovers, listMeets, listContains, saved}
 use Rattle.plain.proofs.Limits.{strip-small}
 use Rattle.pool.proofs.Changes.{inserts, deletes, insert-made, delete-made, insert-accepted, delete-accepted, insert-refused, delete-refused, insert-stored, delete-stored, delete-gone}
 use Rattle.runs.specs.Calls.{Named, pairOf, Call, set-up, check, insert, delete, smallest-x, largest-x, smallest-y, list, opens, closes, first, last, earliest, covers, meets, contains, save, promised, play, SmallX, Each}

@@ -11,7 +11,7 @@ use Rattle.walks.specs.Walks.{roomOf}
 use Rattle.pages.specs.Book.{versionOne, plainSave}
 use Rattle.sound.specs.Promises as check-first
 use Rattle.sound.specs.Promises.{setUp, behindCheck}
-use Rattle.answers.specs.Promises.{insertion, deletion, smallestXAsked, largestXAsked, smallestYAsked, listingAsked, opening, closing, firstToEnd, lastToEnd, earliestStart, listCovers, listMeets, listContains, saved}
+use Rattle.promises.specs.Promises.{insertion, deletion, smallestXAsked, largestXAsked, smallestYAsked, listingAsked, opening, closing, firstToEnd, lastToEnd, earliestStart, listCovers, listMeets, listContains, saved}
 
 -- a strip as a call names it
 pub record Named : Type 0 where

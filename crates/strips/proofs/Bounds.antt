@@ -8,7 +8,7 @@ use Rattle.walks.proofs.Visits.{smallestX-visits, largestX-visits, smallestY-vi
 use Rattle.pools.specs.Cells.{treeOf}
 use Rattle.pools.proofs.InTree.{tree-well}
 use Rattle.sound.specs.Promises.{behindCheck}
-use Rattle.answers.specs.Promises.{firstToEnd, lastToEnd, earliestStart, listingAsked, listCovers, listMeets, listContains}
+use Rattle.promises.specs.Promises.{firstToEnd, lastToEnd, earliestStart, listingAsked, listCovers, listMeets, listContains}
 use Rattle.pool.specs.Showing.{FewVisits}
 use Rattle.pool.proofs.Bounds.{Within, entry-bound, entry-few, listed-few}
 

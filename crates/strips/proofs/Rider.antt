@@ -29,7 +29,7 @@ use Rattle.pool.proofs.Shown.{made-shows}
 use Rattle.plain.specs.Strips.{startOf, endOf, Covers, Meets, Contains, over, coversLimits, lastLimits, meetsLimits, containsLimits, plainCovers, plainMeets, plainFirst, plainLast, plainEarliest, plainContains}
 use Rattle.sound.specs.Promises.{behindCheck}
 use Rattle.sound.proofs.Lines.{entry-made}
-use Rattle.answers.specs.Promises.{firstToEnd, lastToEnd, earliestStart, listingAsked, listCovers, listMeets, listContains}
+use Rattle.promises.specs.Promises.{firstToEnd, lastToEnd, earliestStart, listingAsked, listCovers, listMeets, listContains}
 use Rattle.strips.specs.Riding.{Ahead, Behind, Unbeaten, CoversBy, EndsIn, CoversSome, CoversAll, Drawn, None}
 use Rattle.plain.proofs.Limits.{covers-limits, meets-limits, contains-limits, last-limits, ends-limits}
 

@@ -3,7 +3,7 @@ use kinds::Answer;
 use kinds::codes;
 ghost use Rattle.kinds.specs.Promise.{Answers};
 ghost use Rattle.sound.specs.Promises.{behindCheck};
-ghost use Rattle.answers.specs.Promises.{firstToEnd, lastToEnd, earliestStart};
+ghost use Rattle.promises.specs.Promises.{firstToEnd, lastToEnd, earliestStart};
 
 // The strip that covers slot u and ends first.
 pub fn first_to_end(pool: &[u32], u: u32) -> Answer

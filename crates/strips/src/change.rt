@@ -4,7 +4,7 @@ use kinds::codes;
 ghost use Rattle.kinds.specs.Answer.{ended};
 ghost use Rattle.kinds.specs.Promise.{Changes};
 ghost use Rattle.sound.specs.Promises.{behindCheck};
-ghost use Rattle.answers.specs.Promises.{opening, closing};
+ghost use Rattle.promises.specs.Promises.{opening, closing};
 
 // Opens a strip: its pair is stored. Gives the code alone.
 pub fn open_code(pool: &mut [u32], start: u32, end: u32, number: u32) -> u32

@@ -3,7 +3,7 @@ use kinds::Answer;
 use kinds::codes;
 ghost use Rattle.kinds.specs.Promise.{Writes};
 ghost use Rattle.sound.specs.Promises.{behindCheck};
-ghost use Rattle.answers.specs.Promises.{listCovers, listMeets, listContains};
+ghost use Rattle.promises.specs.Promises.{listCovers, listMeets, listContains};
 
 // The strips that cover slot u.
 pub fn list_covers(pool: &[u32], u: u32, out: &mut [u32]) -> Answer

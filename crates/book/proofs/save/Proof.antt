@@ -1,6 +1,6 @@
 -- The verdict on the pool decides.
 use Rattle.sound.proofs.Lines.{verdict-sound, entry-passed, entry-refused}
-use Rattle.answers.specs.Promises.{saved}
+use Rattle.promises.specs.Promises.{saved}
 use borrow.Author.Needs.{needs}
 use Rattle.book.proofs.save.Statement.{statement}
 use Rattle.book.proofs.save.Tie as tie

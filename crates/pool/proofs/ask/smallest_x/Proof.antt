@@ -1,6 +1,6 @@
 -- The verdict on the pool decides.
 use Rattle.sound.proofs.Lines.{verdict-sound, entry-passed, entry-refused}
-use Rattle.answers.specs.Promises.{smallestXAsked}
+use Rattle.promises.specs.Promises.{smallestXAsked}
 use borrow.Author.Needs.{needs}
 use Rattle.pool.proofs.ask.smallest_x.Statement.{statement}
 use Rattle.pool.proofs.ask.smallest_x.Tie as tie

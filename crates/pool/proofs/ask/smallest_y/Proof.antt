@@ -1,6 +1,6 @@
 -- The verdict on the pool decides.
 use Rattle.sound.proofs.Lines.{verdict-sound, entry-passed, entry-refused}
-use Rattle.answers.specs.Promises.{smallestYAsked}
+use Rattle.promises.specs.Promises.{smallestYAsked}
 use borrow.Author.Needs.{needs}
 use Rattle.pool.proofs.ask.smallest_y.Statement.{statement}
 use Rattle.pool.proofs.ask.smallest_y.Tie as tie

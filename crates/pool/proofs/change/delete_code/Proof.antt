@@ -1,6 +1,6 @@
 -- The verdict on the pool decides.
 use Rattle.sound.proofs.Lines.{verdict-sound, entry-passed, entry-ended}
-use Rattle.answers.specs.Promises.{deletion}
+use Rattle.promises.specs.Promises.{deletion}
 use borrow.Author.Needs.{needs}
 use Rattle.pool.proofs.change.delete_code.Statement.{statement}
 use Rattle.pool.proofs.change.delete_code.Tie as tie

@@ -1,6 +1,6 @@
 -- The verdict on the pool decides.
 use Rattle.sound.proofs.Lines.{verdict-sound, entry-passed, entry-refused}
-use Rattle.answers.specs.Promises.{listingAsked}
+use Rattle.promises.specs.Promises.{listingAsked}
 use borrow.Author.Needs.{needs}
 use Rattle.pool.proofs.list.listing.Statement.{statement}
 use Rattle.pool.proofs.list.listing.Tie as tie

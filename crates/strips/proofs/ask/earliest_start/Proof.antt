@@ -1,6 +1,6 @@
 -- The verdict on the pool decides.
 use Rattle.sound.proofs.Lines.{verdict-sound, entry-passed, entry-refused}
-use Rattle.answers.specs.Promises.{earliestStart}
+use Rattle.promises.specs.Promises.{earliestStart}
 use borrow.Author.Needs.{needs}
 use Rattle.strips.proofs.ask.earliest_start.Statement.{statement}
 use Rattle.strips.proofs.ask.earliest_start.Tie as tie

@@ -1,6 +1,6 @@
 -- The verdict on the pool decides.
 use Rattle.sound.proofs.Lines.{verdict-sound, entry-passed, entry-refused}
-use Rattle.answers.specs.Promises.{lastToEnd}
+use Rattle.promises.specs.Promises.{lastToEnd}
 use borrow.Author.Needs.{needs}
 use Rattle.strips.proofs.ask.last_to_end.Statement.{statement}
 use Rattle.strips.proofs.ask.last_to_end.Tie as tie

@@ -1,6 +1,6 @@
 -- The verdict on the pool decides.
 use Rattle.sound.proofs.Lines.{verdict-sound, entry-passed, entry-ended}
-use Rattle.answers.specs.Promises.{closing}
+use Rattle.promises.specs.Promises.{closing}
 use borrow.Author.Needs.{needs}
 use Rattle.strips.proofs.change.close_code.Statement.{statement}
 use Rattle.strips.proofs.change.close_code.Tie as tie

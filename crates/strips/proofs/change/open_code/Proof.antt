@@ -1,6 +1,6 @@
 -- The verdict on the pool decides.
 use Rattle.sound.proofs.Lines.{verdict-sound, entry-passed, entry-ended}
-use Rattle.answers.specs.Promises.{opening}
+use Rattle.promises.specs.Promises.{opening}
 use borrow.Author.Needs.{needs}
 use Rattle.strips.proofs.change.open_code.Statement.{statement}
 use Rattle.strips.proofs.change.open_code.Tie as tie

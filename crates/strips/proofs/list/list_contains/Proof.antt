@@ -1,6 +1,6 @@
 -- The verdict on the pool decides.
 use Rattle.sound.proofs.Lines.{verdict-sound, entry-passed, entry-refused}
-use Rattle.answers.specs.Promises.{listContains}
+use Rattle.promises.specs.Promises.{listContains}
 use borrow.Author.Needs.{needs}
 use Rattle.strips.proofs.list.list_contains.Statement.{statement}
 use Rattle.strips.proofs.list.list_contains.Tie as tie

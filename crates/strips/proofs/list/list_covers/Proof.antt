@@ -1,6 +1,6 @@
 -- The verdict on the pool decides.
 use Rattle.sound.proofs.Lines.{verdict-sound, entry-passed, entry-refused}
-use Rattle.answers.specs.Promises.{listCovers}
+use Rattle.promises.specs.Promises.{listCovers}
 use borrow.Author.Needs.{needs}
 use Rattle.strips.proofs.list.list_covers.Statement.{statement}
 use Rattle.strips.proofs.list.list_covers.Tie as tie

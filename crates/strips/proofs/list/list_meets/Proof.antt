@@ -1,6 +1,6 @@
 -- The verdict on the pool decides.
 use Rattle.sound.proofs.Lines.{verdict-sound, entry-passed, entry-refused}
-use Rattle.answers.specs.Promises.{listMeets}
+use Rattle.promises.specs.Promises.{listMeets}
 use borrow.Author.Needs.{needs}
 use Rattle.strips.proofs.list.list_meets.Statement.{statement}
 use Rattle.strips.proofs.list.list_meets.Tie as tie

@@ -1,0 +1,27 @@
+-- Backwards limits are refused; else the walk answers.
+use Rattle.promises.proofs.Ways.{limits-backwards, limits-right}
+use Rattle.plain.specs.Books.{plainLargestX}
+use Rattle.promises.specs.Promises.{largestXAsked}
+use Rattle.promises.proofs.Asked.{largestX-gives}
+use borrow.Author.Needs.{needs}
+use Rattle.ask.proofs.largest_x.Statement.{statement}
+use Rattle.ask.proofs.largest_x.Tie as tie
+
+returns : tie.Need-returns
+unfolding largestXAsked plainLargestX
+returns c =
+    let at-if1 = c .before in
+    let at-entry = at-if1 .before .before in
+    limits-backwards (at-entry .args .x0) (at-entry .args .x1) (at-if1 .if1 .taken) (c .refused .ensures)
+
+returns-2 : tie.Need-returns-2
+unfolding largestXAsked plainLargestX
+returns-2 c =
+    let at-largest-x = c .before in
+    let at-if1 = at-largest-x .before in
+    let at-entry = at-if1 .before .before in
+    limits-right (at-entry .args .x0) (at-entry .args .x1) (at-if1 .if1 .left) (largestX-gives (at-entry .pre) _ (at-largest-x .largest-x .ensures) (c .walked .ensures))
+
+pub largest-x-spec : {M : Type 1} → statement M
+largest-x-spec =
+    tie.close (tie.spec (λ c κs. search needs) returns (λ c κs. search needs) (λ c κs. search needs) returns-2)
