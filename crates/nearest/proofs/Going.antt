@@ -1,4 +1,4 @@
--- A walk goes on from place to place, and what is still to be walked gives what was asked.
+-- A walk goes on from stop to stop, and what is still to be walked gives what was asked.
 use Prim.Native.Nat.{ℕ, _+_, _-_, _≤_, _<_}
 use mathlib.Core.Path.{_≡_, refl, sym, ap, _∙_}
 use mathlib.Core.Bool.{Bool, true, false, cond}
@@ -18,66 +18,66 @@ use Rattle.walks.specs.Walks.{seen}
 use Rattle.plain.proofs.Closest.{Ranks}
 use Rattle.pools.proofs.Leads.{tree-none, within-more}
 use Rattle.questions.specs.Walking.{foundAt}
-use Rattle.nearest.specs.declared.cut.Cut.{Cut}
-use Rattle.nearest.specs.Cuts.{stripeBy}
+use Rattle.nearest.specs.declared.slim.Slim.{Slim}
+use Rattle.nearest.specs.Slim.{stripeBy}
 use Rattle.nearest.specs.Nearer.{Nearer}
-use Rattle.nearest.specs.Waiting.{Place, place, treeOf, after, since, inTurn, slotsAt, Stands, Stand, Going}
+use Rattle.nearest.specs.Waiting.{Stop, stop, treeBelow, after, since, inTurn, slotsAt, StopFits, StopsFit, Going}
 use Rattle.nearest.proofs.Sides.{Sons}
 use Rattle.nearest.proofs.Turns.{after-none, since-end, too-high, visited}
 
 -- with more levels allowed
-lower : (c : List ℕ) (j k : ℕ) (p : Place) → j ≤ k → Stands c j p → Stands c k p
-lower c j k p h o = record { leads = o .leads; levels = within-more j k (treeOf c p) h (o .levels); height = o .height; cut = o .cut; room = o .room }
+lower : (c : List ℕ) (j k : ℕ) (p : Stop) → j ≤ k → StopFits c j p → StopFits c k p
+lower c j k p h o = record { leads = o .leads; levels = within-more j k (treeBelow c p) h (o .levels); height = o .height; slim = o .slim; room = o .room }
 
 module _ (W : Stripe → Tree Pair → Walked) (empty : (at : Stripe) → W at none ≡ seen Nothing 0) (c : List ℕ) where
-  -- an empty place gives nothing, and has nothing
-  skip : (p : Place) (ps : List Place) → p .slot ≡ 0 → inTurn W c (p ∷ ps) ≡ inTurn W c ps
+  -- an empty stop gives nothing, and has nothing
+  skip : (p : Stop) (ps : List Stop) → p .slot ≡ 0 → inTurn W c (p ∷ ps) ≡ inTurn W c ps
   unfolding inTurn
   skip p ps e = rw (tree-none c allLevels (p .slot) e, empty (stripeBy (p .at))) (after-none (inTurn W c ps))
 
   -- what waits, and none where there is a hit
-  turn-still : (hit : Bool) (ws : List Place) → inTurn W c (cond hit [] ws) ≡ cond hit (seen Nothing 0) (inTurn W c ws)
+  turn-still : (hit : Bool) (ws : List Stop) → inTurn W c (cond hit [] ws) ≡ cond hit (seen Nothing 0) (inTurn W c ws)
   unfolding inTurn
   turn-still true ws = refl
   turn-still false ws = refl
 
-  slots-still : (hit : Bool) (ws : List Place) → slotsAt c (cond hit [] ws) ≤ slotsAt c ws
+  slots-still : (hit : Bool) (ws : List Stop) → slotsAt c (cond hit [] ws) ≤ slotsAt c ws
   unfolding slotsAt
   slots-still true ws = omega arith
   slots-still false ws = omega arith
 
-  stand-still : (hit : Bool) (ws : List Place) → Stand c ws → Stand c (cond hit [] ws)
-  unfolding Stand
-  stand-still true ws o = tt
-  stand-still false ws o = o
+  fit-still : (hit : Bool) (ws : List Stop) → StopsFit c ws → StopsFit c (cond hit [] ws)
+  unfolding StopsFit
+  fit-still true ws o = tt
+  fit-still false ws o = o
 
-  length-still : (hit : Bool) (ws : List Place) → length {A = Place} (cond hit [] ws) ≤ length ws
+  length-still : (hit : Bool) (ws : List Stop) → length {A = Stop} (cond hit [] ws) ≤ length ws
   length-still true ws = omega arith
   length-still false ws = omega arith
 
   module _ (closer : Pair → Pair → Bool) (answer : Walked) (best v : ℕ) where
-    -- law: an empty place is left for the next
-    pub next : (p : Place) (ps : List Place) → p .slot ≡ 0 → Going W closer c answer (p ∷ ps) best v → Going W closer c answer ps best v
-    unfolding Stand slotsAt
+    -- law: an empty stop is left for the next
+    pub next : (p : Stop) (ps : List Stop) → p .slot ≡ 0 → Going W closer c answer (p ∷ ps) best v → Going W closer c answer ps best v
+    unfolding StopsFit slotsAt
     next p ps e G =
         let f = G .few in
         record {
-          stand = G .stand .1;
+          fit = G .fit .1;
           some = G .some;
           few = omega arith;
           asked = ap (λ w. since closer (foundAt c best) v w) (sym (skip p ps e)) ∙ G .asked;
         }
 
     -- law: and needs not wait behind another
-    pub alone : (p z : Place) (ps : List Place) → z .slot ≡ 0 → Going W closer c answer (p ∷ z ∷ ps) best v → Going W closer c answer (p ∷ ps) best v
-    unfolding Stand slotsAt inTurn
+    pub alone : (p z : Stop) (ps : List Stop) → z .slot ≡ 0 → Going W closer c answer (p ∷ z ∷ ps) best v → Going W closer c answer (p ∷ ps) best v
+    unfolding StopsFit slotsAt inTurn
     alone p z ps e G =
         let f = G .few in
         record {
-          stand = (lower c (allLevels - length (z ∷ ps)) (allLevels - length ps) p (omega arith) (G .stand .0), G .stand .1 .1);
+          fit = (lower c (allLevels - length (z ∷ ps)) (allLevels - length ps) p (omega arith) (G .fit .0), G .fit .1 .1);
           some = G .some;
           few = omega arith;
-          asked = ap (λ w. since closer (foundAt c best) v (after (W (stripeBy (p .at)) (treeOf c p)) w)) (sym (skip z ps e)) ∙ G .asked;
+          asked = ap (λ w. since closer (foundAt c best) v (after (W (stripeBy (p .at)) (treeBelow c p)) w)) (sym (skip z ps e)) ∙ G .asked;
         }
 
     -- law: the end
@@ -85,40 +85,40 @@ module _ (W : Stripe → Tree Pair → Walked) (empty : (at : Stripe) → W at n
     unfolding inTurn
     ends G = sym (since-end closer (foundAt c best) v) ∙ G .asked
 
-    module _ (q : Limits) (s : ℕ) (at : Cut) (ws : List Place) (near far : Place) (G : Going W closer c answer (place s at ∷ ws) best v) (ne : s ≡ 0 → ⊥)
-        (S : Sons W closer q c (allLevels - length ws) (place s at) near far) where
+    module _ (q : Limits) (s : ℕ) (at : Slim) (ws : List Stop) (near far : Stop) (G : Going W closer c answer (stop s at ∷ ws) best v) (ne : s ≡ 0 → ⊥)
+        (S : Sons W closer q c (allLevels - length ws) (stop s at) near far) where
       -- law: a slot whose y is too high gives nothing, at one visit
-      pub nothing-here : (p : Pair) → p ≡ pairAt c s → q .y1 < p .y → Going W closer c answer (place 0 at ∷ ws) best (v + 1)
-      unfolding Stand slotsAt inTurn
+      pub nothing-here : (p : Pair) → p ≡ pairAt c s → q .y1 < p .y → Going W closer c answer (stop 0 at ∷ ws) best (v + 1)
+      unfolding StopsFit slotsAt inTurn
       nothing-here p ep h =
           let f = G .few in
           let z = S .slots in
           let e = tree-none c allLevels 0 refl in
           let n : size (treeAt c allLevels 0) ≡ 0 = rw e in
           record {
-            stand = (record { leads = rw e nowhere; levels = rw e tt; height = G .stand .0 .height; cut = G .stand .0 .cut; room = rw e tt }, G .stand .1);
+            fit = (record { leads = rw e nowhere; levels = rw e tt; height = G .fit .0 .height; slim = G .fit .0 .slim; room = rw e tt }, G .fit .1);
             some = G .some;
             few = omega arith;
-            asked = ap (λ w. since closer (foundAt c best) (v + 1) w) (skip (place 0 at) ws refl)
-                ∙ (sym (too-high q closer (pairAt c s) (W (stripeBy (near .at)) (treeOf c near)) (W (stripeBy (far .at)) (treeOf c far)) (inTurn W c ws) (foundAt c best) v (rw ep at h))
+            asked = ap (λ w. since closer (foundAt c best) (v + 1) w) (skip (stop 0 at) ws refl)
+                ∙ (sym (too-high q closer (pairAt c s) (W (stripeBy (near .at)) (treeBelow c near)) (W (stripeBy (far .at)) (treeBelow c far)) (inTurn W c ws) (foundAt c best) v (rw ep at h))
                 ∙ (ap (λ w. since closer (foundAt c best) v (after w (inTurn W c ws))) (sym (S .gives)) ∙ G .asked));
           }
 
       -- law: a slot's own pair joins what was found so far, and its sons are next
       pub visit : Ranks closer → (p : Pair) → p ≡ pairAt c s → p .y ≤ q .y1 → (hit : Bool) → hit ≡ inRange (q .x0) (q .x1) p → (b : ℕ) → Nearer c closer hit s best b
           → Going W closer c answer (near ∷ far ∷ cond hit [] ws) b (v + 1)
-      unfolding Stand slotsAt inTurn
+      unfolding StopsFit slotsAt inTurn
       visit R p ep h hit eh b N =
           let f = G .few in
           let z = S .slots in
           let n = slots-still hit ws in
           let m = length-still hit ws in
-          let near-is = W (stripeBy (near .at)) (treeOf c near) in
-          let far-is = W (stripeBy (far .at)) (treeOf c far) in
+          let near-is = W (stripeBy (near .at)) (treeBelow c near) in
+          let far-is = W (stripeBy (far .at)) (treeBelow c far) in
           record {
-            stand = (
-              S .near-stands (allLevels - length (far ∷ cond hit [] ws)) (omega arith),
-              (S .far-stands (allLevels - length {A = Place} (cond hit [] ws)) (omega arith), stand-still hit ws (G .stand .1)),
+            fit = (
+              S .near-fits (allLevels - length (far ∷ cond hit [] ws)) (omega arith),
+              (S .far-fits (allLevels - length {A = Stop} (cond hit [] ws)) (omega arith), fit-still hit ws (G .fit .1)),
             );
             some = N .some;
             few = omega arith;
@@ -128,6 +128,6 @@ module _ (W : Stripe → Tree Pair → Walked) (empty : (at : Stripe) → W at n
           }
 
       -- law: and with fewer slots
-      pub fewer : (hit : Bool) → slotsAt c (near ∷ far ∷ cond hit [] ws) + 1 ≤ slotsAt c (place s at ∷ ws)
+      pub fewer : (hit : Bool) → slotsAt c (near ∷ far ∷ cond hit [] ws) + 1 ≤ slotsAt c (stop s at ∷ ws)
       unfolding slotsAt
       fewer hit = let z = S .slots in let n = slots-still hit ws in omega arith

@@ -1,9 +1,9 @@
 -- The laws that the proofs of the x walks cite.
 pub mod Closer
 pub mod Turns
-pub mod Cuts
-pub mod Places
+pub mod Slims
+pub mod Stops
 pub mod Sides
 pub mod Rows
 pub mod Going
-pub mod Held
+pub mod InRows

@@ -67,15 +67,15 @@ module _ (q : Limits) (closer : Pair → Pair → Bool) (p : Pair) (a b rest : W
         go (Found r) n = same refl (omega arith)
 
     -- behind a hit nothing is walked
-    stops : (g : Finding) (n : ℕ) → after (seen (closest closer g (Found p)) n) rest ≡ seen (closest closer g (Found p)) n
-    stops Nothing n = same refl (omega arith)
-    stops (Found r) n = on (closer p r) (λ t. rw t (same refl (omega arith))) (λ t. rw t (same refl (omega arith)))
+    ends-there : (g : Finding) (n : ℕ) → after (seen (closest closer g (Found p)) n) rest ≡ seen (closest closer g (Found p)) n
+    ends-there Nothing n = same refl (omega arith)
+    ends-there (Found r) n = on (closer p r) (λ t. rw t (same refl (omega arith))) (λ t. rw t (same refl (omega arith)))
 
     taken : own (matches q) p ≡ Found p
         → since closer f v (after (byX closer q p a b) rest) ≡ since closer (closest closer (Found p) f) (v + 1) (after a b)
     taken e =
         ap (λ w. since closer f v (after w rest)) (gives (Found p) e)
-        ∙ (ap (λ w. since closer f v w) (stops (after a b .finding) (after a b .visits + 1))
+        ∙ (ap (λ w. since closer f v w) (ends-there (after a b .finding) (after a b .visits + 1))
         ∙ same (closest-assoc (matches q) R (after a b .finding) (Found p) f) (omega arith))
 
     -- law: a slot's own pair joins what was found so far, and its sons are next; behind a hit nothing waits any more

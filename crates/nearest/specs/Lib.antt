@@ -1,4 +1,4 @@
 pub mod Nearer
-pub mod Cuts
+pub mod Slim
 pub mod Asking
 pub mod Waiting

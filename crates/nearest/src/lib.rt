@@ -1,6 +1,6 @@
-// Smallest and largest x over a sound pool, each the other's mirror: a loop, with the second sons that wait in rows. A place waits
-// for a slot above whose first son has given nothing so far; slot 0 is an empty place, where the one that came last is next.
-use cut::Cut;
+// Smallest and largest x over a sound pool, each the other's mirror: a loop, with the second sons that wait in rows. A stop waits
+// for a slot above whose first son has given nothing so far; slot 0 is an empty stop, where the one that came last is next.
+use slim::Slim;
 use kinds::Walked;
 use questions::found_at;
 use questions::in_range;
@@ -15,11 +15,11 @@ ghost use Rattle.walks.specs.Walks.{smallestX, largestX};
 ghost use Rattle.questions.specs.Walking.{Some};
 ghost use Rattle.nearest.specs.Nearer.{Nearer};
 ghost use Rattle.nearest.specs.Asking.{leftAsked, rightAsked};
-ghost use Rattle.nearest.specs.Cuts.{MiddleFits, stripeBy};
+ghost use Rattle.nearest.specs.Slim.{MiddleFits, stripeBy};
 
-mod cut;
+mod slim;
 
-// Room for the places that wait: at most one for each level below the root.
+// Room for the stops that wait: at most one for each level below the root.
 const ROOM: usize = 32;
 
 // The slot's own pair, if it is a hit, unless what was found so far is smaller.
@@ -60,7 +60,7 @@ fn larger_of(pool: &[u32], hit: bool, slot: u32, best: u32) -> u32
     slot
 }
 
-// How many places still wait: behind a hit none, since the first son of each slot above has now given something.
+// How many stops still wait: behind a hit none, since the first son of each slot above has now given something.
 fn still(hit: bool, wait: usize) -> usize
     ensures { λ r. ⌜ r ≡ cond hit 0 wait ⌝ }
 {
@@ -71,7 +71,7 @@ fn still(hit: bool, wait: usize) -> usize
 }
 
 // The left son, if it is asked.
-fn left_asked(pool: &[u32], slot: u32, at: Cut, x0: u32) -> u32
+fn left_asked(pool: &[u32], slot: u32, at: Slim, x0: u32) -> u32
     requires { ⌜ Fits (now pool) slot × MiddleFits at ⌝ }
     ensures { λ r. ⌜ r ≡ leftAsked (now (pool .entry)) slot (stripeBy at) x0 ⌝ }
 {
@@ -82,7 +82,7 @@ fn left_asked(pool: &[u32], slot: u32, at: Cut, x0: u32) -> u32
 }
 
 // The right son, if it is asked.
-fn right_asked(pool: &[u32], slot: u32, at: Cut, x1: u32) -> u32
+fn right_asked(pool: &[u32], slot: u32, at: Slim, x1: u32) -> u32
     requires { ⌜ Fits (now pool) slot × MiddleFits at ⌝ }
     ensures { λ r. ⌜ r ≡ rightAsked (now (pool .entry)) slot (stripeBy at) x1 ⌝ }
 {
@@ -102,7 +102,7 @@ pub fn smallest_x(pool: &[u32], x0: u32, x1: u32, y1: u32) -> Walked
     let mut halves = [0u32; ROOM];
     let mut wait: usize = 0;
     let mut slot = cells::root(pool);
-    let mut at = Cut::root();
+    let mut at = Slim::root();
     let mut best: u32 = 0;
     let mut visits: u32 = 0;
     loop {
@@ -115,7 +115,7 @@ pub fn smallest_x(pool: &[u32], x0: u32, x1: u32, y1: u32) -> Walked
             }
             wait -= 1;
             slot = slots[wait];
-            at = Cut {
+            at = Slim {
                 lower: lowers[wait],
                 half: halves[wait],
             };
@@ -160,7 +160,7 @@ pub fn largest_x(pool: &[u32], x0: u32, x1: u32, y1: u32) -> Walked
     let mut halves = [0u32; ROOM];
     let mut wait: usize = 0;
     let mut slot = cells::root(pool);
-    let mut at = Cut::root();
+    let mut at = Slim::root();
     let mut best: u32 = 0;
     let mut visits: u32 = 0;
     loop {
@@ -173,7 +173,7 @@ pub fn largest_x(pool: &[u32], x0: u32, x1: u32, y1: u32) -> Walked
             }
             wait -= 1;
             slot = slots[wait];
-            at = Cut {
+            at = Slim {
                 lower: lowers[wait],
                 half: halves[wait],
             };

@@ -1,7 +1,7 @@
 -- The middle is the definition's.
 use borrow.Author.Needs.{needs}
-use Rattle.nearest.proofs.cut.Cut.goes_left.Statement.{statement}
-use Rattle.nearest.proofs.cut.Cut.goes_left.Tie as tie
+use Rattle.nearest.proofs.slim.Slim.goes_left.Statement.{statement}
+use Rattle.nearest.proofs.slim.Slim.goes_left.Tie as tie
 
 returns : tie.Need-returns
 returns c = rw (c .middle .ensures)

@@ -1,4 +1,4 @@
--- A cut's parts are the parts of its stripe, as long as there is more than a single x in it.
+-- The parts of a slim stripe are the parts of the stripe that it stands for, as long as there is more than a single x in it.
 use Prim.Native.Nat.{ℕ, zero, suc, _+_, _-_, _/_, _^_, _≤_}
 use mathlib.Core.Path.{_≡_, refl, sym, ap, _∙_}
 use native.Mathlib.Omega.{arith}
@@ -10,11 +10,11 @@ use Rattle.kinds.specs.Stripe.{Stripe, middle, leftPart, rightPart}
 use Rattle.trees.specs.Tree.{Tree, none, fork, Within}
 use Rattle.walks.specs.Walks.{seen}
 use Rattle.kinds.proofs.Heights.{some}
-use Rattle.nearest.specs.declared.cut.Cut.{Cut}
-use Rattle.nearest.specs.Cuts.{wide, stripeBy, rootCut, leftCut, rightCut, MiddleFits, CutAt}
+use Rattle.nearest.specs.declared.slim.Slim.{Slim}
+use Rattle.nearest.specs.Slim.{wide, stripeBy, rootSlim, leftSlim, rightSlim, MiddleFits, SlimAt}
 
 -- law: the middle is the lower end and half of the width
-pub middle-by : (s : Cut) → middle (stripeBy s) ≡ s .lower + s .half
+pub middle-by : (s : Slim) → middle (stripeBy s) ≡ s .lower + s .half
 middle-by s = go (s .lower) (s .half)
   where
     go : (l h : ℕ) → (l + (l + wide h)) / 2 ≡ l + h
@@ -33,37 +33,37 @@ wide-at (suc k) =
     let h : 2 ^ suc k / 2 ≡ 2 ^ k = omega arith in
     ap wide h ∙ (wide-some (2 ^ k) (some k) ∙ sym e)
 
-pub root-at : CutAt 32 rootCut
+pub root-at : SlimAt 32 rootSlim
 root-at = record { half = refl; low = omega arith }
 
-module _ (k : ℕ) (s : Cut) (h : CutAt k s) where
+module _ (k : ℕ) (s : Slim) (h : SlimAt k s) where
   -- law: its middle is a number of 32 bits
-  pub cut-fits : MiddleFits s
-  cut-fits = let w = some k in let a = h .half in let b = h .low in omega arith
+  pub slim-fits : MiddleFits s
+  slim-fits = let w = some k in let a = h .half in let b = h .low in omega arith
 
-module _ (k : ℕ) (s : Cut) (h : CutAt (suc k) s) where
+module _ (k : ℕ) (s : Slim) (h : SlimAt (suc k) s) where
   half-is : s .half ≡ 2 ^ k
   half-is = let a = h .half in let e = two-pow-succ k in omega arith
 
   ends : s .lower + (2 ^ k + 2 ^ k) ≤ 4294967296
   ends = let b = h .low in let e = two-pow-succ k in omega arith
 
-  left-below : CutAt k (leftCut s)
+  left-below : SlimAt k (leftSlim s)
   left-below = let b = ends in record { half = ap (λ w. w / 2) half-is; low = omega arith }
 
-  right-below : CutAt k (rightCut s)
+  right-below : SlimAt k (rightSlim s)
   right-below = let a = half-is in let b = ends in record { half = ap (λ w. w / 2) half-is; low = omega arith }
 
   wide-next : wide (s .half / 2) ≡ 2 ^ k
   wide-next = ap (λ w. wide (w / 2)) half-is ∙ wide-at k
 
-  left-part : stripeBy (leftCut s) ≡ leftPart (stripeBy s)
+  left-part : stripeBy (leftSlim s) ≡ leftPart (stripeBy s)
   left-part = λ i. record { lower = s .lower; upper = up i }
     where
       up : s .lower + wide (s .half / 2) ≡ middle (stripeBy s)
       up = ap (λ w. s .lower + w) (wide-next ∙ sym half-is) ∙ sym (middle-by s)
 
-  right-part : stripeBy (rightCut s) ≡ rightPart (stripeBy s)
+  right-part : stripeBy (rightSlim s) ≡ rightPart (stripeBy s)
   right-part = λ i. record { lower = sym (middle-by s) i; upper = up i }
     where
       all : wide (s .half) ≡ 2 ^ k + 2 ^ k
@@ -73,22 +73,22 @@ module _ (k : ℕ) (s : Cut) (h : CutAt (suc k) s) where
       up = let a = half-is in let b = all in let d = wide-next in omega arith
 
 -- law: the parts are a level lower, or a single x
-pub left-at : (k : ℕ) (s : Cut) → CutAt k s → CutAt (k - 1) (leftCut s)
+pub left-at : (k : ℕ) (s : Slim) → SlimAt k s → SlimAt (k - 1) (leftSlim s)
 left-at zero s h = let a = h .half in record { half = omega arith; low = h .low }
 left-at (suc k) s h = let z : suc k - 1 ≡ k = omega arith in rw z (left-below k s h)
 
-pub right-at : (k : ℕ) (s : Cut) → CutAt k s → CutAt (k - 1) (rightCut s)
+pub right-at : (k : ℕ) (s : Slim) → SlimAt k s → SlimAt (k - 1) (rightSlim s)
 right-at zero s h = let a = h .half in let b = h .low in record { half = omega arith; low = omega arith }
 right-at (suc k) s h = let z : suc k - 1 ≡ k = omega arith in rw z (right-below k s h)
 
--- law: a walk from a son's place is that from the part, or there is no tree to walk
+-- law: a walk from a slim part is that from the part, or there is no tree to walk
 module _ (W : Stripe → Tree Pair → Walked) (empty : (at : Stripe) → W at none ≡ seen Nothing 0) where
-  pub left-same : (k : ℕ) (s : Cut) → CutAt k s → (t : Tree Pair) → Within k t → W (leftPart (stripeBy s)) t ≡ W (stripeBy (leftCut s)) t
+  pub left-same : (k : ℕ) (s : Slim) → SlimAt k s → (t : Tree Pair) → Within k t → W (leftPart (stripeBy s)) t ≡ W (stripeBy (leftSlim s)) t
   left-same zero s h none w = empty _ ∙ sym (empty _)
   left-same zero s h (fork n p l r) w = absurd w
   left-same (suc k) s h t w = ap (λ at. W at t) (sym (left-part k s h))
 
-  pub right-same : (k : ℕ) (s : Cut) → CutAt k s → (t : Tree Pair) → Within k t → W (rightPart (stripeBy s)) t ≡ W (stripeBy (rightCut s)) t
+  pub right-same : (k : ℕ) (s : Slim) → SlimAt k s → (t : Tree Pair) → Within k t → W (rightPart (stripeBy s)) t ≡ W (stripeBy (rightSlim s)) t
   right-same zero s h none w = empty _ ∙ sym (empty _)
   right-same zero s h (fork n p l r) w = absurd w
   right-same (suc k) s h t w = ap (λ at. W at t) (sym (right-part k s h))

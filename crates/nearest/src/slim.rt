@@ -1,25 +1,25 @@
-// A stripe in 32 bits, by its lower end and half of its width.
+// A slim stripe: in 32 bits, by its lower end and half of its width.
 ghost use mathlib.Core.Path.{_≡_};
 ghost use lib.Dec.{ltb};
 ghost use Rattle.kinds.specs.Stripe.{middle};
-ghost use Rattle.nearest.specs.Cuts.{MiddleFits, stripeBy, rootCut, leftCut, rightCut};
+ghost use Rattle.nearest.specs.Slim.{MiddleFits, stripeBy, rootSlim, leftSlim, rightSlim};
 
-pub struct Cut {
+pub struct Slim {
     pub lower: u32,
     pub half: u32,
 }
 
-impl Cut {
+impl Slim {
     pub const ROOT_LOWER: u32 = 0;
 
     pub const ROOT_HALF: u32 = 2147483648;
 
-    pub fn root() -> Cut
-        ensures { λ r. ⌜ r ≡ rootCut ⌝ }
+    pub fn root() -> Slim
+        ensures { λ r. ⌜ r ≡ rootSlim ⌝ }
     {
-        Cut {
-            lower: Cut::ROOT_LOWER,
-            half: Cut::ROOT_HALF,
+        Slim {
+            lower: Slim::ROOT_LOWER,
+            half: Slim::ROOT_HALF,
         }
     }
 
@@ -31,20 +31,20 @@ impl Cut {
         self.lower + self.half
     }
 
-    pub fn left(self) -> Cut
-        ensures { λ r. ⌜ r ≡ leftCut self ⌝ }
+    pub fn left(self) -> Slim
+        ensures { λ r. ⌜ r ≡ leftSlim self ⌝ }
     {
-        Cut {
+        Slim {
             lower: self.lower,
             half: self.half / 2,
         }
     }
 
-    pub fn right(self) -> Cut
+    pub fn right(self) -> Slim
         requires { ⌜ MiddleFits self ⌝ }
-        ensures { λ r. ⌜ r ≡ rightCut self ⌝ }
+        ensures { λ r. ⌜ r ≡ rightSlim self ⌝ }
     {
-        Cut {
+        Slim {
             lower: self.lower + self.half,
             half: self.half / 2,
         }

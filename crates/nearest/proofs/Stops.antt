@@ -1,4 +1,4 @@
--- The place where a walk is and the places that wait: what it relies on there, and at the sons that it asks.
+-- The stop where a walk is and the stops that wait: what it relies on there, and at the sons that it asks.
 use Prim.Native.Nat.{ℕ, suc, _≤_}
 use mathlib.Core.Path.{_≡_, refl, sym}
 use mathlib.Core.Bool.{Bool, true, false, cond}
@@ -13,9 +13,9 @@ use Rattle.kinds.specs.Stripe.{lowLevels, allLevels, Stripe}
 use Rattle.trees.specs.Tree.{Tree, none, size, Within}
 use Rattle.pools.proofs.Leads.{tree-none, tree-deeper}
 use Rattle.walks.specs.Walks.{seen, ask}
-use Rattle.nearest.specs.declared.cut.Cut.{Cut}
-use Rattle.nearest.specs.Cuts.{CutAt}
-use Rattle.nearest.specs.Waiting.{place, Stands}
+use Rattle.nearest.specs.declared.slim.Slim.{Slim}
+use Rattle.nearest.specs.Slim.{SlimAt}
+use Rattle.nearest.specs.Waiting.{stop, StopFits}
 
 module _ (c : List ℕ) where
   -- a son that is asked, or none
@@ -28,14 +28,14 @@ module _ (c : List ℕ) where
   asked-within true s j o w = rw (tree-deeper c lowLevels s o) w
   asked-within false s j o w = rw (tree-none c allLevels 0 refl) tt
 
-  -- law: a son that is asked stands a level lower
-  pub asked-stands : (go : Bool) (s j e : ℕ) (at : Cut) → Leads c s (treeAt c lowLevels s) → Within j (treeAt c lowLevels s)
-      → CutAt e at → Within (suc e) (treeAt c lowLevels s) → Stands c j (place (cond go s 0) at)
-  asked-stands go s j e at o w h r = record {
+  -- law: a son that is asked fits a level lower
+  pub asked-fits : (go : Bool) (s j e : ℕ) (at : Slim) → Leads c s (treeAt c lowLevels s) → Within j (treeAt c lowLevels s)
+      → SlimAt e at → Within (suc e) (treeAt c lowLevels s) → StopFits c j (stop (cond go s 0) at)
+  asked-fits go s j e at o w h r = record {
     leads = asked-leads go s o;
     levels = asked-within go s j o w;
     height = e;
-    cut = h;
+    slim = h;
     room = asked-within go s (suc e) o r;
   }
 
