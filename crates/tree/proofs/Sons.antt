@@ -1,4 +1,4 @@
--- What stands at a son's place, a test at a time.
+-- A son's own tests, one at a time.
 use Prim.Native.Nat.{ℕ, suc, _-_, _/_, _≤_, _<_}
 use mathlib.Core.Path.{_≡_, refl, sym, _∙_}
 use mathlib.Core.Bool.{Bool, true, false}

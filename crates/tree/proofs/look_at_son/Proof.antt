@@ -3,10 +3,10 @@ use mathlib.Core.Path.{sym, _∙_}
 use native.Mathlib.Omega.{arith}
 use borrow.Author.Tests.{not-true, not-false}
 use Rattle.tree.specs.Checked.{empty, leaf, branch, bad}
-use Rattle.tree.proofs.Places.{fine-fits, too-deep, faulty-slot, faulty-order}
+use Rattle.tree.proofs.Sons.{fine-fits, too-deep, faulty-slot, faulty-order}
 use borrow.Author.Needs.{needs}
-use Rattle.tree.proofs.place_of.Statement.{statement}
-use Rattle.tree.proofs.place_of.Tie as tie
+use Rattle.tree.proofs.look_at_son.Statement.{statement}
+use Rattle.tree.proofs.look_at_son.Tie as tie
 
 returns : tie.Need-returns
 returns c = empty (c .if1 .taken)
@@ -76,8 +76,8 @@ returns-7 c =
     let at-if1 = at-if2 .before in
     leaf (at-if1 .if1 .left) (at-if2 .if2 .left) (sym (at-slot-fine .slot-fine .ensures) ∙ not-false _ (at-if3 .if3 .left)) (rw (at-pair .pair .ensures) at (sym (at-beats .beats .ensures) ∙ not-false _ (at-if4 .if4 .left))) (rw (at-left .left .ensures) at (at-if5 .if5 .left)) (rw (at-right .right .ensures) at (c .if6 .left))
 
-pub place-of-spec : {M : Type 1} → statement M
-place-of-spec =
+pub look-at-son-spec : {M : Type 1} → statement M
+look-at-son-spec =
     tie.close
     (tie.spec
     returns
