@@ -6,7 +6,7 @@ use native.Mathlib.Nat.{two-pow-succ}
 use Rattle.kinds.specs.declared.Finding.the-variants.{Nothing}
 use Rattle.kinds.specs.declared.Pair.{Pair}
 use Rattle.kinds.specs.declared.Walked.{Walked}
-use Rattle.kinds.specs.Stripe.{Stripe, middle, leftPart, rightPart}
+use Rattle.kinds.specs.Stripe.{lowLevels, Stripe, middle, leftPart, rightPart}
 use Rattle.trees.specs.Tree.{Tree, none, fork, Within}
 use Rattle.walks.specs.Walks.{seen}
 use Rattle.kinds.proofs.Heights.{some}
@@ -33,7 +33,7 @@ wide-at (suc k) =
     let h : 2 ^ suc k / 2 ≡ 2 ^ k = omega arith in
     ap wide h ∙ (wide-some (2 ^ k) (some k) ∙ sym e)
 
-pub root-at : SlimAt 32 rootSlim
+pub root-at : SlimAt lowLevels rootSlim
 root-at = record { half = refl; low = omega arith }
 
 module _ (k : ℕ) (s : Slim) (h : SlimAt k s) where

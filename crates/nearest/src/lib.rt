@@ -1,6 +1,7 @@
 // Smallest and largest x over a sound pool, each the other's mirror: a loop, with the second sons that wait in rows. A stop waits
 // for a slot above whose first son has given nothing so far; slot 0 is an empty stop, where the one that came last is next.
 use slim::Slim;
+use kinds::Stripe;
 use kinds::Walked;
 use questions::found_at;
 use questions::in_range;
@@ -20,7 +21,7 @@ ghost use Rattle.nearest.specs.Slim.{MiddleFits, stripeBy};
 mod slim;
 
 // Room for the stops that wait: at most one for each level below the root.
-const ROOM: usize = 32;
+const ROOM: usize = Stripe::LEVELS as usize;
 
 // The slot's own pair, if it is a hit, unless what was found so far is smaller.
 fn smaller_of(pool: &[u32], hit: bool, slot: u32, best: u32) -> u32

@@ -9,7 +9,7 @@ use lib.Dec.{ltb}
 use borrow.Author.Tests.{eq-eqb, ne-eqb}
 use Rattle.kinds.specs.declared.Pair.{Pair}
 use Rattle.kinds.specs.Pairs.{beats}
-use Rattle.kinds.specs.Stripe.{Stripe, Low, middle, leftPart, rightPart}
+use Rattle.kinds.specs.Stripe.{lowLevels, Stripe, Low, middle, leftPart, rightPart}
 use Rattle.trees.specs.Tree.{size}
 use Rattle.trees.specs.Changes.{met}
 use Rattle.pools.specs.Cells.{Fits, pairAt, leftAt, rightAt, treeAt}
@@ -154,7 +154,7 @@ may-search c k p s sp at u a eu ea l =
     record { leads = fine-true c k p s sp (was-counted _ _ _ (sym eu ∙ ea) .0) .fine .leads; low = l }
 
 -- a count is of few slots
-pub few-counted : (c : List ℕ) (k : ℕ) (p : Pair) (s : ℕ) (at : Stripe) (u : Checked) (a : ℕ) → k ≤ 32 → u ≡ fromLink c k p s at → u ≡ Counted a
+pub few-counted : (c : List ℕ) (k : ℕ) (p : Pair) (s : ℕ) (at : Stripe) (u : Checked) (a : ℕ) → k ≤ lowLevels → u ≡ fromLink c k p s at → u ≡ Counted a
     → a < 4294967296
 unfolding fromLink
 few-counted c k p s at u a h eu ea =

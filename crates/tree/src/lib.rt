@@ -7,7 +7,7 @@ ghost use Prim.Native.Nat.{_≤_};
 ghost use Rattle.pools.specs.Cells.{Fits, treeAt};
 ghost use Rattle.kinds.specs.Shape.{stripeOf};
 ghost use Rattle.pools.specs.Sound.{Pool};
-ghost use Rattle.kinds.specs.Stripe.{Low};
+ghost use Rattle.kinds.specs.Stripe.{Low, lowLevels};
 ghost use Rattle.pools.specs.Test.{alone, slotFine};
 ghost use Rattle.tree.specs.Checked.{fromLink, fromSlot, fromRoot, SonIs};
 ghost use Rattle.halving.specs.Sought.{Sought};
@@ -76,7 +76,7 @@ fn look_at_son(pool: &[u32], levels: u32, p: Pair, son: u32, at: Stripe) -> Son
 
 // From a slot down whose own tests have passed, with so many levels below it.
 fn check_slot(pool: &[u32], levels: u32, slot: u32, at: Stripe) -> Checked
-    requires { ⌜ Fits (now pool) slot × (levels ≤ 32) × Low (stripeOf at) ⌝ }
+    requires { ⌜ Fits (now pool) slot × (levels ≤ lowLevels) × Low (stripeOf at) ⌝ }
     ensures { λ r. ⌜ r ≡ fromSlot (now (pool .entry)) levels slot (stripeOf at) ⌝ }
 {
     let p = cells::pair(pool, slot);
@@ -96,7 +96,7 @@ fn check_slot(pool: &[u32], levels: u32, slot: u32, at: Stripe) -> Checked
 
 // From a son's place down, with so many levels left.
 fn check_son(pool: &[u32], levels: u32, p: Pair, son: u32, at: Stripe) -> Checked
-    requires { ⌜ (levels ≤ 32) × Low (stripeOf at) ⌝ }
+    requires { ⌜ (levels ≤ lowLevels) × Low (stripeOf at) ⌝ }
     ensures { λ r. ⌜ r ≡ fromLink (now (pool .entry)) levels p son (stripeOf at) ⌝ }
 {
     let what = look_at_son(pool, levels, p, son, at);
