@@ -15,7 +15,7 @@ pub fn smallest_x(pool: &[u32], x0: u32, x1: u32, y1: u32) -> Answer
     if x1 < x0 {
         return Answer::refused(codes::BACKWARDS);
     }
-    Answer::walked(nearest::smallest_x(pool, x0, x1, y1))
+    Answer::walked(leftmost::smallest_x(pool, x0, x1, y1))
 }
 
 // Of the pairs with x0 ≤ x ≤ x1 and y ≤ y1, the one with the largest x.
@@ -26,7 +26,7 @@ pub fn largest_x(pool: &[u32], x0: u32, x1: u32, y1: u32) -> Answer
     if x1 < x0 {
         return Answer::refused(codes::BACKWARDS);
     }
-    Answer::walked(nearest::largest_x(pool, x0, x1, y1))
+    Answer::walked(rightmost::largest_x(pool, x0, x1, y1))
 }
 
 // Of the pairs with x0 ≤ x ≤ x1, the one with the smallest y; on equal y the one with the smaller x.
@@ -48,7 +48,7 @@ pub fn first_to_end(pool: &[u32], u: u32) -> Answer
     if shape::over(u) {
         return Answer::refused(codes::NO_STRIP);
     }
-    Answer::walked(nearest::smallest_x(pool, u * shape::PER_END, shape::LAST_X, u))
+    Answer::walked(leftmost::smallest_x(pool, u * shape::PER_END, shape::LAST_X, u))
 }
 
 // The strip that covers slot u and ends last, no later than e.
@@ -62,7 +62,7 @@ pub fn last_to_end(pool: &[u32], u: u32, e: u32) -> Answer
     if e < u {
         return Answer::refused(codes::BACKWARDS);
     }
-    Answer::walked(nearest::largest_x(
+    Answer::walked(rightmost::largest_x(
         pool,
         u * shape::PER_END,
         e * shape::PER_END + shape::LARGEST,

@@ -18,9 +18,9 @@ use Rattle.walks.specs.Walks.{seen}
 use Rattle.plain.proofs.Closest.{Ranks}
 use Rattle.pools.proofs.Leads.{tree-none, within-more}
 use Rattle.questions.specs.Walking.{foundAt}
-use Rattle.nearest.specs.declared.slim.Slim.{Slim}
-use Rattle.nearest.specs.Slim.{stripeBy}
-use Rattle.nearest.specs.Nearer.{Nearer}
+use Rattle.slim.specs.declared.Slim.{Slim}
+use Rattle.slim.specs.Slim.{stripeBy}
+use Rattle.visit.specs.Nearer.{Nearer}
 use Rattle.nearest.specs.Waiting.{Stop, stop, treeBelow, after, since, inTurn, slotsAt, StopFits, StopsFit, Going}
 use Rattle.nearest.proofs.Sides.{Sons}
 use Rattle.nearest.proofs.Turns.{after-none, since-end, too-high, visited}

@@ -20,11 +20,11 @@ use Rattle.pools.proofs.Leads.{tree-none, tree-fork, tree-within, leads-fits}
 use Rattle.questions.specs.Walking.{foundAt}
 use Rattle.questions.proofs.Finding.{no-slot, found-none}
 use Rattle.questions.proofs.Top.{root-asked}
-use Rattle.nearest.specs.declared.slim.Slim.{Slim}
-use Rattle.nearest.specs.Slim.{rootSlim, MiddleFits}
-use Rattle.nearest.specs.Nearer.{Nearer}
+use Rattle.slim.specs.declared.Slim.{Slim}
+use Rattle.slim.specs.Slim.{rootSlim, MiddleFits}
+use Rattle.visit.specs.Nearer.{Nearer}
 use Rattle.nearest.specs.Waiting.{Stop, stop, waiting, after, inTurn, slotsAt, StopFits, StopsFit, Going, InRows}
-use Rattle.nearest.proofs.Slims.{root-at, slim-fits}
+use Rattle.slim.proofs.Slims.{root-at, slim-fits}
 use Rattle.nearest.proofs.Going.{next, alone, ends, nothing-here, visit, fewer}
 use Rattle.nearest.proofs.Rows.{waiting-length, waiting-none, waiting-still, waiting-last, waiting-more}
 use Rattle.nearest.proofs.Sides.{ByX, Sons}

@@ -1,7 +1,5 @@
 -- The laws that the proofs of the x walks cite.
-pub mod Closer
 pub mod Turns
-pub mod Slims
 pub mod Stops
 pub mod Sides
 pub mod Rows

@@ -9,7 +9,7 @@ use native.Mathlib.Numerals.{add-one}
 use lib.ListN.{length, getD, set}
 use lib.Seq.{getD-set-same, getD-set-other}
 use Rattle.pools.proofs.Leads.{back}
-use Rattle.nearest.specs.declared.slim.Slim.{Slim}
+use Rattle.slim.specs.declared.Slim.{Slim}
 use Rattle.nearest.specs.Waiting.{stop, waiting}
 
 module _ (slots lowers halves : List ℕ) where

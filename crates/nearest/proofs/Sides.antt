@@ -17,12 +17,12 @@ use Rattle.trees.specs.Tree.{Tree, none, fork, size, Within}
 use Rattle.walks.specs.Walks.{seen, ask, byX, smallestX, largestX}
 use Rattle.plain.proofs.Closest.{Ranks, by-smaller, by-larger}
 use Rattle.pools.proofs.Leads.{within-more, tree-fork, leads-son}
-use Rattle.nearest.specs.declared.slim.Slim.{Slim}
-use Rattle.nearest.specs.Asking.{leftAsked, rightAsked}
-use Rattle.nearest.specs.Slim.{stripeBy, leftSlim, rightSlim}
+use Rattle.slim.specs.declared.Slim.{Slim}
+use Rattle.visit.specs.Asking.{leftAsked, rightAsked}
+use Rattle.slim.specs.Slim.{stripeBy, leftSlim, rightSlim}
 use Rattle.nearest.specs.Waiting.{Stop, stop, treeBelow, StopFits}
-use Rattle.nearest.proofs.Slims.{left-at, right-at, left-same, right-same}
-use Rattle.nearest.proofs.Stops.{asked-walk, asked-within, asked-fits, asked-size}
+use Rattle.slim.proofs.Slims.{left-at, right-at}
+use Rattle.nearest.proofs.Stops.{asked-walk, asked-within, asked-fits, asked-size, left-same, right-same}
 
 -- what both x walks have: nothing on an empty tree, and a closer x that ranks
 pub record ByX (W : Stripe → Tree Pair → Walked) (closer : Pair → Pair → Bool) : Type 0 where

@@ -1,6 +1,6 @@
 -- The stop where a walk is and the stops that wait: what it relies on there, and at the sons that it asks.
-use Prim.Native.Nat.{ℕ, suc, _≤_}
-use mathlib.Core.Path.{_≡_, refl, sym}
+use Prim.Native.Nat.{ℕ, zero, suc, _≤_}
+use mathlib.Core.Path.{_≡_, refl, sym, ap, _∙_}
 use mathlib.Core.Bool.{Bool, true, false, cond}
 use mathlib.Core.List.{List}
 use native.Mathlib.Omega.{arith}
@@ -9,12 +9,13 @@ use Rattle.kinds.specs.declared.Pair.{Pair}
 use Rattle.kinds.specs.declared.Walked.{Walked}
 use Rattle.pools.specs.Cells.{treeAt}
 use Rattle.pools.specs.Sound.{Leads, nowhere}
-use Rattle.kinds.specs.Stripe.{lowLevels, allLevels, Stripe}
-use Rattle.trees.specs.Tree.{Tree, none, size, Within}
+use Rattle.kinds.specs.Stripe.{lowLevels, allLevels, Stripe, leftPart, rightPart}
+use Rattle.trees.specs.Tree.{Tree, none, fork, size, Within}
 use Rattle.pools.proofs.Leads.{tree-none, tree-deeper}
 use Rattle.walks.specs.Walks.{seen, ask}
-use Rattle.nearest.specs.declared.slim.Slim.{Slim}
-use Rattle.nearest.specs.Slim.{SlimAt}
+use Rattle.slim.specs.declared.Slim.{Slim}
+use Rattle.slim.specs.Slim.{stripeBy, leftSlim, rightSlim, SlimAt}
+use Rattle.slim.proofs.Slims.{left-part, right-part}
 use Rattle.nearest.specs.Waiting.{stop, StopFits}
 
 module _ (c : List ℕ) where
@@ -50,3 +51,15 @@ module _ (c : List ℕ) where
         → ask go (W at (treeAt c lowLevels s)) ≡ W at (treeAt c allLevels (cond go s 0))
     asked-walk true s at o = rw (tree-deeper c lowLevels s o)
     asked-walk false s at o = rw (tree-none c allLevels 0 refl) (sym (empty at))
+
+-- law: a walk from a slim part is that from the part, or there is no tree to walk
+module _ (W : Stripe → Tree Pair → Walked) (empty : (at : Stripe) → W at none ≡ seen Nothing 0) where
+  pub left-same : (k : ℕ) (s : Slim) → SlimAt k s → (t : Tree Pair) → Within k t → W (leftPart (stripeBy s)) t ≡ W (stripeBy (leftSlim s)) t
+  left-same zero s h none w = empty _ ∙ sym (empty _)
+  left-same zero s h (fork n p l r) w = absurd w
+  left-same (suc k) s h t w = ap (λ at. W at t) (sym (left-part k s h))
+
+  pub right-same : (k : ℕ) (s : Slim) → SlimAt k s → (t : Tree Pair) → Within k t → W (rightPart (stripeBy s)) t ≡ W (stripeBy (rightSlim s)) t
+  right-same zero s h none w = empty _ ∙ sym (empty _)
+  right-same zero s h (fork n p l r) w = absurd w
+  right-same (suc k) s h t w = ap (λ at. W at t) (sym (right-part k s h))

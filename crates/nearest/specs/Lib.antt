@@ -1,4 +1,1 @@
-pub mod Nearer
-pub mod Slim
-pub mod Asking
 pub mod Waiting

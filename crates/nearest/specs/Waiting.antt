@@ -15,8 +15,8 @@ use Rattle.kinds.specs.Stripe.{lowLevels, allLevels, Stripe}
 use Rattle.trees.specs.Tree.{Tree, Within, size}
 use Rattle.walks.specs.Walks.{seen, orElse}
 use Rattle.questions.specs.Walking.{foundAt, Some}
-use Rattle.nearest.specs.declared.slim.Slim.{Slim}
-use Rattle.nearest.specs.Slim.{stripeBy, SlimAt}
+use Rattle.slim.specs.declared.Slim.{Slim}
+use Rattle.slim.specs.Slim.{stripeBy, SlimAt}
 
 -- a stop of a walk: a slot's number, or 0, and the stripe there
 pub record Stop : Type 0 where
