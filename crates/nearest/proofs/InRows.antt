@@ -23,12 +23,12 @@ use Rattle.questions.proofs.Top.{root-asked}
 use Rattle.slim.specs.declared.Slim.{Slim}
 use Rattle.slim.specs.Slim.{rootSlim, MiddleFits}
 use Rattle.visit.specs.Nearer.{Nearer}
-use Rattle.nearest.specs.Waiting.{Stop, stop, waiting, after, inTurn, slotsAt, StopFits, StopsFit, Going, InRows}
+use Rattle.nearest.specs.Waiting.{Stop, stop, waiting, orNext, stopByStop, slotsAt, StopFits, StopsFit, GoesOn, InRows}
 use Rattle.slim.proofs.Slims.{root-at, slim-fits}
-use Rattle.nearest.proofs.Going.{next, alone, ends, nothing-here, visit, fewer}
+use Rattle.nearest.proofs.GoesOn.{next, alone, ends, nothing-here, visit, fewer}
 use Rattle.nearest.proofs.Rows.{waiting-length, waiting-none, waiting-still, waiting-last, waiting-more}
-use Rattle.nearest.proofs.Sides.{ByX, Sons}
-use Rattle.nearest.proofs.Turns.{since-start, after-end}
+use Rattle.nearest.proofs.Sides.{ByX, SonsAsked}
+use Rattle.nearest.proofs.Turns.{since-start, or-end}
 
 -- what falls with each turn: a visit takes a slot away and puts at most one stop into the rows
 abbrev pub toWalk : List ℕ → (slots lowers halves : List ℕ) → (wait slot : ℕ) → Slim → ℕ
@@ -53,7 +53,7 @@ module _ {W : Stripe → Tree Pair → Walked} {closer : Pair → Pair → Bool}
 
   pub here-fits : StopFits c (allLevels - length (waiting slots lowers halves wait)) (stop s at)
   unfolding StopsFit
-  here-fits = H .going .fit .0
+  here-fits = H .goes-on .fit .0
 
   -- law: the middle there is a number of 32 bits
   pub middle-fits : MiddleFits at
@@ -72,7 +72,7 @@ module _ {W : Stripe → Tree Pair → Walked} {closer : Pair → Pair → Bool}
     -- law: one more visit fits
     pub one-more : v + 1 < 4294967296
     unfolding slotsAt
-    one-more = let f = H .going .few in let z = a-slot c s ne in omega arith
+    one-more = let f = H .goes-on .few in let z = a-slot c s ne in omega arith
 
     pub high-less : toWalk c slots lowers halves wait 0 at < toWalk c slots lowers halves wait s at
     unfolding slotsAt
@@ -84,7 +84,7 @@ module _ {W : Stripe → Tree Pair → Walked} {closer : Pair → Pair → Bool}
   module _ (B : ByX W closer) where
     -- law: the walk is at its end where no stop is left
     pub at-end : s ≡ 0 → wait ≡ 0 → {f : Finding} → f ≡ foundAt c best → seen f v ≡ answer
-    at-end e z ef = rw ef (ends W (B .empty) c closer answer best v (rw (waiting-none slots lowers halves wait z) at (next W (B .empty) c closer answer best v (stop s at) ws e (H .going))))
+    at-end e z ef = rw ef (ends W (B .empty) c closer answer best v (rw (waiting-none slots lowers halves wait z) at (next W (B .empty) c closer answer best v (stop s at) ws e (H .goes-on))))
 
     -- law: the stop that was put into the rows last is next
     pub pop : s ≡ 0 → (wait ≡ 0 → ⊥)
@@ -94,22 +94,22 @@ module _ {W : Stripe → Tree Pair → Walked} {closer : Pair → Pair → Bool}
         record {
           room = H .room;
           most = omega arith;
-          going = rw (waiting-last slots lowers halves wait nz) at (next W (B .empty) c closer answer best v (stop s at) ws e (H .going));
+          goes-on = rw (waiting-last slots lowers halves wait nz) at (next W (B .empty) c closer answer best v (stop s at) ws e (H .goes-on));
         }
 
-    module _ (ne : s ≡ 0 → ⊥) {q : Limits} {near far : Stop} (S : Sons W closer q c (allLevels - length (waiting slots lowers halves wait)) (stop s at) near far)
+    module _ (ne : s ≡ 0 → ⊥) {q : Limits} {near far : Stop} (S : SonsAsked W closer q c (allLevels - length (waiting slots lowers halves wait)) (stop s at) near far)
         {p : Pair} (ep : p ≡ pairAt c s) where
       -- law: a slot whose y is too high gives nothing
       pub too-high : q .y1 < p .y → InRows W closer c answer slots lowers halves wait 0 at best (v + 1)
-      too-high h = record { room = H .room; most = H .most; going = nothing-here W (B .empty) c closer answer best v q s at ws near far (H .going) ne S p ep h }
+      too-high h = record { room = H .room; most = H .most; goes-on = nothing-here W (B .empty) c closer answer best v q s at ws near far (H .goes-on) ne S p ep h }
 
       module _ (h : p .y ≤ q .y1) {hit : Bool} (eh : hit ≡ inRange (q .x0) (q .x1) p) {b : ℕ} (N : Nearer c closer hit s best b)
           {kept : ℕ} (ek : kept ≡ cond hit 0 wait) where
-        after-visit : Going W closer c answer (near ∷ far ∷ waiting slots lowers halves kept) b (v + 1)
-        after-visit = rw (ek, waiting-still slots lowers halves hit wait) (visit W (B .empty) c closer answer best v q s at ws near far (H .going) ne S (B .ranks) p ep h hit eh b N)
+        after-visit : GoesOn W closer c answer (near ∷ far ∷ waiting slots lowers halves kept) b (v + 1)
+        after-visit = rw (ek, waiting-still slots lowers halves hit wait) (visit W (B .empty) c closer answer best v q s at ws near far (H .goes-on) ne S (B .ranks) p ep h hit eh b N)
 
         fewer-slots : slotsAt c (near ∷ far ∷ waiting slots lowers halves kept) + 1 ≤ slotsAt c (stop s at ∷ waiting slots lowers halves wait)
-        fewer-slots = rw (ek, waiting-still slots lowers halves hit wait) (fewer W (B .empty) c closer answer best v q s at ws near far (H .going) ne S hit)
+        fewer-slots = rw (ek, waiting-still slots lowers halves hit wait) (fewer W (B .empty) c closer answer best v q s at ws near far (H .goes-on) ne S hit)
 
         fewer-waits : kept ≤ wait
         fewer-waits = rw ek (still-less hit wait)
@@ -119,7 +119,7 @@ module _ {W : Stripe → Tree Pair → Walked} {closer : Pair → Pair → Bool}
         to-far e = record {
           room = H .room;
           most = omega (arith, H .most, fewer-waits);
-          going = next W (B .empty) c closer answer b (v + 1) near (far ∷ waiting slots lowers halves kept) e after-visit;
+          goes-on = next W (B .empty) c closer answer b (v + 1) near (far ∷ waiting slots lowers halves kept) e after-visit;
         }
 
         -- law: the near son is next, and where the far one is not asked no stop is put into the rows
@@ -127,7 +127,7 @@ module _ {W : Stripe → Tree Pair → Walked} {closer : Pair → Pair → Bool}
         to-near e = record {
           room = H .room;
           most = omega (arith, H .most, fewer-waits);
-          going = alone W (B .empty) c closer answer b (v + 1) near far (waiting slots lowers halves kept) e after-visit;
+          goes-on = alone W (B .empty) c closer answer b (v + 1) near far (waiting slots lowers halves kept) e after-visit;
         }
 
         -- law: there is room for the far son's stop
@@ -147,7 +147,7 @@ module _ {W : Stripe → Tree Pair → Walked} {closer : Pair → Pair → Bool}
             record {
               room = simp length-set r;
               most = omega arith;
-              going = rw (waiting-more slots lowers halves kept (far .slot) (far .at) (omega arith) (omega arith) (omega arith)) after-visit;
+              goes-on = rw (waiting-more slots lowers halves kept (far .slot) (far .at) (omega arith) (omega arith) (omega arith)) after-visit;
             }
 
         pub far-less : toWalk c slots lowers halves kept (far .slot) (far .at) < toWalk c slots lowers halves wait s at
@@ -174,14 +174,14 @@ module _ (W : Stripe → Tree Pair → Walked) (closer : Pair → Pair → Bool)
   pub start : (slots lowers halves : List ℕ) → length slots ≡ lowLevels → length lowers ≡ lowLevels → length halves ≡ lowLevels
       → (s : ℕ) → s ≡ rootOf c → (at : Slim) → at ≡ rootSlim
       → InRows W closer c (W rootStripe (treeAt c allLevels (rootOf c))) slots lowers halves 0 s at 0 0
-  unfolding StopsFit slotsAt inTurn
+  unfolding StopsFit slotsAt stopByStop
   start slots lowers halves a b d s es at ea = rw (es, ea) (record {
     room = (a, b, d);
     most = omega arith;
-    going = rw (waiting-none slots lowers halves 0 refl) (record {
+    goes-on = rw (waiting-none slots lowers halves 0 refl) (record {
       fit = (record { leads = root-asked c o .leads; levels = tree-within c allLevels (rootOf c); height = lowLevels; slim = root-at; room = tree-within c allLevels (rootOf c) }, tt);
       some = no-slot c;
       few = let f = root-asked c o .few in omega arith;
-      asked = rw (found-none c 0 refl) (since-start closer (after (W rootStripe (treeAt c allLevels (rootOf c))) (seen Nothing 0)) ∙ after-end (W rootStripe (treeAt c allLevels (rootOf c))));
+      asked = rw (found-none c 0 refl) (since-start closer (orNext (W rootStripe (treeAt c allLevels (rootOf c))) (seen Nothing 0)) ∙ or-end (W rootStripe (treeAt c allLevels (rootOf c))));
     });
   })

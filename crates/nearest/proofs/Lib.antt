@@ -3,5 +3,5 @@ pub mod Turns
 pub mod Stops
 pub mod Sides
 pub mod Rows
-pub mod Going
+pub mod GoesOn
 pub mod InRows

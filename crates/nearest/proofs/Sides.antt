@@ -30,7 +30,7 @@ pub record ByX (W : Stripe → Tree Pair → Walked) (closer : Pair → Pair →
   pub ranks : Ranks closer
 
 -- two stops are a slot's sons as a walk asks them: the rule gives its answer by theirs, and each has a level less
-pub record Sons (W : Stripe → Tree Pair → Walked) (closer : Pair → Pair → Bool) (q : Limits) (c : List ℕ) (k : ℕ) (here near far : Stop) : Type 0 where
+pub record SonsAsked (W : Stripe → Tree Pair → Walked) (closer : Pair → Pair → Bool) (q : Limits) (c : List ℕ) (k : ℕ) (here near far : Stop) : Type 0 where
   pub gives : W (stripeBy (here .at)) (treeBelow c here) ≡ byX closer q (pairAt c (here .slot)) (W (stripeBy (near .at)) (treeBelow c near)) (W (stripeBy (far .at)) (treeBelow c far))
   pub slots : size (treeBelow c near) + size (treeBelow c far) + 1 ≤ size (treeBelow c here)
   pub near-fits : (j : ℕ) → k ≤ suc j → StopFits c j near
@@ -111,7 +111,7 @@ module _ (c : List ℕ) (k s : ℕ) (at : Slim) (q : Limits) (o : StopFits c k (
 
   module _ (l r : ℕ) (lp rp : Slim) (el : l ≡ leftAsked c s (stripeBy at) (q .x0)) (er : r ≡ rightAsked c s (stripeBy at) (q .x1)) (elp : lp ≡ leftSlim at) (erp : rp ≡ rightSlim at) where
     -- law: smallest x asks left, then right
-    pub smallest-sons : Sons (smallestX q) smaller q c k (stop s at) (stop l lp) (stop r rp)
+    pub smallest-sons : SonsAsked (smallestX q) smaller q c k (stop s at) (stop l lp) (stop r rp)
     smallest-sons = rw (el, er, elp, erp) (record {
       gives = smallest-fork ∙ (λ i. byX smaller q (pairAt c s) (left-walk (smallestX q) (smallest q .empty) i) (right-walk (smallestX q) (smallest q .empty) i));
       slots = sizes;
@@ -120,7 +120,7 @@ module _ (c : List ℕ) (k s : ℕ) (at : Slim) (q : Limits) (o : StopFits c k (
     })
 
     -- law: largest x asks right, then left
-    pub largest-sons : Sons (largestX q) larger q c k (stop s at) (stop r rp) (stop l lp)
+    pub largest-sons : SonsAsked (largestX q) larger q c k (stop s at) (stop r rp) (stop l lp)
     largest-sons = rw (el, er, elp, erp) (record {
       gives = largest-fork ∙ (λ i. byX larger q (pairAt c s) (right-walk (largestX q) (largest q .empty) i) (left-walk (largestX q) (largest q .empty) i));
       slots = omega (arith, sizes);

@@ -38,13 +38,13 @@ abbrev pub treeBelow : List ℕ → Stop → Tree Pair
 treeBelow c p = treeAt c allLevels (p .slot)
 
 -- one walk, and the other if the first gave nothing
-abbrev pub after : Walked → Walked → Walked
-after a b = let o = orElse (a .finding) b in seen (o .finding) (a .visits + o .visits)
+abbrev pub orNext : Walked → Walked → Walked
+orNext a b = let o = orElse (a .finding) b in seen (o .finding) (a .visits + o .visits)
 
 -- the stops walked in turn, until one gives something
-unfoldable pub inTurn : (Stripe → Tree Pair → Walked) → List ℕ → List Stop → Walked
-inTurn W c [] = seen Nothing 0
-inTurn W c (p ∷ ps) = after (W (stripeBy (p .at)) (treeBelow c p)) (inTurn W c ps)
+unfoldable pub stopByStop : (Stripe → Tree Pair → Walked) → List ℕ → List Stop → Walked
+stopByStop W c [] = seen Nothing 0
+stopByStop W c (p ∷ ps) = orNext (W (stripeBy (p .at)) (treeBelow c p)) (stopByStop W c ps)
 
 -- a walk made after so many visits: what it finds, unless what was found so far is closer
 abbrev pub since : (Pair → Pair → Bool) → Finding → ℕ → Walked → Walked
@@ -69,15 +69,15 @@ StopsFit c [] = Unit {0}
 StopsFit c (p ∷ ps) = StopFits c (allLevels - length ps) p × StopsFit c ps
 
 -- the walk goes on: what is still to be walked, after what was found so far, gives the answer
-pub record Going (W : Stripe → Tree Pair → Walked) (closer : Pair → Pair → Bool) (c : List ℕ) (answer : Walked) (ps : List Stop) (best v : ℕ) : Type 0 where
+pub record GoesOn (W : Stripe → Tree Pair → Walked) (closer : Pair → Pair → Bool) (c : List ℕ) (answer : Walked) (ps : List Stop) (best v : ℕ) : Type 0 where
   pub fit : StopsFit c ps
   pub some : Some c best
   pub few : v + slotsAt c ps < 4294967296
-  pub asked : since closer (foundAt c best) v (inTurn W c ps) ≡ answer
+  pub asked : since closer (foundAt c best) v (stopByStop W c ps) ≡ answer
 
 -- the same, with the stops that wait in the code's rows, which have room for one a level
 pub record InRows (W : Stripe → Tree Pair → Walked) (closer : Pair → Pair → Bool) (c : List ℕ) (answer : Walked) (slots lowers halves : List ℕ) (wait slot : ℕ)
     (at : Slim) (best v : ℕ) : Type 0 where
   pub room : (length slots ≡ lowLevels) × (length lowers ≡ lowLevels) × (length halves ≡ lowLevels)
   pub most : wait ≤ lowLevels
-  pub going : Going W closer c answer (stop slot at ∷ waiting slots lowers halves wait) best v
+  pub goes-on : GoesOn W closer c answer (stop slot at ∷ waiting slots lowers halves wait) best v

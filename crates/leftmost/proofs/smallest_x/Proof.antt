@@ -32,7 +32,7 @@ loop-holds c =
     start (smallestX _) smaller _ (at-entry .pre) _ _ _ refl refl refl _ (at-root .root .ensures) _ (c .root2 .ensures)
 
 found-at-requires : tie.Need-found-at-requires Inv-loop μ-loop
-found-at-requires c κs = c .before .before .loop .inv .going .some
+found-at-requires c κs = c .before .before .loop .inv .goes-on .some
 
 sub-wait : tie.Need-sub-wait Inv-loop μ-loop
 sub-wait c = omega (arith, c .if2 .left)
@@ -88,7 +88,7 @@ loop-again-2 c =
     too-high (at-loop .loop .inv) (smallest _) (at-if1 .if1 .left) (smallest-sons _ _ _ _ _ (here-fits (at-loop .loop .inv)) (at-if1 .if1 .left) _ _ _ _ refl refl refl refl) (at-pair .pair .ensures) (c .if3 .taken)
 
 smaller-of-requires : tie.Need-smaller-of-requires Inv-loop μ-loop
-smaller-of-requires c κs = (omega (arith, c .before .before .before .before .if1 .left), fits (c .before .before .before .before .before .loop .inv) (c .before .before .before .before .if1 .left), c .before .before .before .before .before .loop .inv .going .some)
+smaller-of-requires c κs = (omega (arith, c .before .before .before .before .if1 .left), fits (c .before .before .before .before .before .loop .inv) (c .before .before .before .before .if1 .left), c .before .before .before .before .before .loop .inv .goes-on .some)
 
 left-asked-requires : tie.Need-left-asked-requires Inv-loop μ-loop
 left-asked-requires c κs =

@@ -21,9 +21,9 @@ use Rattle.questions.specs.Walking.{foundAt}
 use Rattle.slim.specs.declared.Slim.{Slim}
 use Rattle.slim.specs.Slim.{stripeBy}
 use Rattle.visit.specs.Nearer.{Nearer}
-use Rattle.nearest.specs.Waiting.{Stop, stop, treeBelow, after, since, inTurn, slotsAt, StopFits, StopsFit, Going}
-use Rattle.nearest.proofs.Sides.{Sons}
-use Rattle.nearest.proofs.Turns.{after-none, since-end, too-high, visited}
+use Rattle.nearest.specs.Waiting.{Stop, stop, treeBelow, orNext, since, stopByStop, slotsAt, StopFits, StopsFit, GoesOn}
+use Rattle.nearest.proofs.Sides.{SonsAsked}
+use Rattle.nearest.proofs.Turns.{or-none, since-end, too-high, visited}
 
 -- with more levels allowed
 lower : (c : List ℕ) (j k : ℕ) (p : Stop) → j ≤ k → StopFits c j p → StopFits c k p
@@ -31,13 +31,13 @@ lower c j k p h o = record { leads = o .leads; levels = within-more j k (treeBel
 
 module _ (W : Stripe → Tree Pair → Walked) (empty : (at : Stripe) → W at none ≡ seen Nothing 0) (c : List ℕ) where
   -- an empty stop gives nothing, and has nothing
-  skip : (p : Stop) (ps : List Stop) → p .slot ≡ 0 → inTurn W c (p ∷ ps) ≡ inTurn W c ps
-  unfolding inTurn
-  skip p ps e = rw (tree-none c allLevels (p .slot) e, empty (stripeBy (p .at))) (after-none (inTurn W c ps))
+  skip : (p : Stop) (ps : List Stop) → p .slot ≡ 0 → stopByStop W c (p ∷ ps) ≡ stopByStop W c ps
+  unfolding stopByStop
+  skip p ps e = rw (tree-none c allLevels (p .slot) e, empty (stripeBy (p .at))) (or-none (stopByStop W c ps))
 
   -- what waits, and none where there is a hit
-  turn-still : (hit : Bool) (ws : List Stop) → inTurn W c (cond hit [] ws) ≡ cond hit (seen Nothing 0) (inTurn W c ws)
-  unfolding inTurn
+  turn-still : (hit : Bool) (ws : List Stop) → stopByStop W c (cond hit [] ws) ≡ cond hit (seen Nothing 0) (stopByStop W c ws)
+  unfolding stopByStop
   turn-still true ws = refl
   turn-still false ws = refl
 
@@ -57,7 +57,7 @@ module _ (W : Stripe → Tree Pair → Walked) (empty : (at : Stripe) → W at n
 
   module _ (closer : Pair → Pair → Bool) (answer : Walked) (best v : ℕ) where
     -- law: an empty stop is left for the next
-    pub next : (p : Stop) (ps : List Stop) → p .slot ≡ 0 → Going W closer c answer (p ∷ ps) best v → Going W closer c answer ps best v
+    pub next : (p : Stop) (ps : List Stop) → p .slot ≡ 0 → GoesOn W closer c answer (p ∷ ps) best v → GoesOn W closer c answer ps best v
     unfolding StopsFit slotsAt
     next p ps e G =
         let f = G .few in
@@ -69,27 +69,27 @@ module _ (W : Stripe → Tree Pair → Walked) (empty : (at : Stripe) → W at n
         }
 
     -- law: and needs not wait behind another
-    pub alone : (p z : Stop) (ps : List Stop) → z .slot ≡ 0 → Going W closer c answer (p ∷ z ∷ ps) best v → Going W closer c answer (p ∷ ps) best v
-    unfolding StopsFit slotsAt inTurn
+    pub alone : (p z : Stop) (ps : List Stop) → z .slot ≡ 0 → GoesOn W closer c answer (p ∷ z ∷ ps) best v → GoesOn W closer c answer (p ∷ ps) best v
+    unfolding StopsFit slotsAt stopByStop
     alone p z ps e G =
         let f = G .few in
         record {
           fit = (lower c (allLevels - length (z ∷ ps)) (allLevels - length ps) p (omega arith) (G .fit .0), G .fit .1 .1);
           some = G .some;
           few = omega arith;
-          asked = ap (λ w. since closer (foundAt c best) v (after (W (stripeBy (p .at)) (treeBelow c p)) w)) (sym (skip z ps e)) ∙ G .asked;
+          asked = ap (λ w. since closer (foundAt c best) v (orNext (W (stripeBy (p .at)) (treeBelow c p)) w)) (sym (skip z ps e)) ∙ G .asked;
         }
 
     -- law: the end
-    pub ends : Going W closer c answer [] best v → seen (foundAt c best) v ≡ answer
-    unfolding inTurn
+    pub ends : GoesOn W closer c answer [] best v → seen (foundAt c best) v ≡ answer
+    unfolding stopByStop
     ends G = sym (since-end closer (foundAt c best) v) ∙ G .asked
 
-    module _ (q : Limits) (s : ℕ) (at : Slim) (ws : List Stop) (near far : Stop) (G : Going W closer c answer (stop s at ∷ ws) best v) (ne : s ≡ 0 → ⊥)
-        (S : Sons W closer q c (allLevels - length ws) (stop s at) near far) where
+    module _ (q : Limits) (s : ℕ) (at : Slim) (ws : List Stop) (near far : Stop) (G : GoesOn W closer c answer (stop s at ∷ ws) best v) (ne : s ≡ 0 → ⊥)
+        (S : SonsAsked W closer q c (allLevels - length ws) (stop s at) near far) where
       -- law: a slot whose y is too high gives nothing, at one visit
-      pub nothing-here : (p : Pair) → p ≡ pairAt c s → q .y1 < p .y → Going W closer c answer (stop 0 at ∷ ws) best (v + 1)
-      unfolding StopsFit slotsAt inTurn
+      pub nothing-here : (p : Pair) → p ≡ pairAt c s → q .y1 < p .y → GoesOn W closer c answer (stop 0 at ∷ ws) best (v + 1)
+      unfolding StopsFit slotsAt stopByStop
       nothing-here p ep h =
           let f = G .few in
           let z = S .slots in
@@ -100,14 +100,14 @@ module _ (W : Stripe → Tree Pair → Walked) (empty : (at : Stripe) → W at n
             some = G .some;
             few = omega arith;
             asked = ap (λ w. since closer (foundAt c best) (v + 1) w) (skip (stop 0 at) ws refl)
-                ∙ (sym (too-high q closer (pairAt c s) (W (stripeBy (near .at)) (treeBelow c near)) (W (stripeBy (far .at)) (treeBelow c far)) (inTurn W c ws) (foundAt c best) v (rw ep at h))
-                ∙ (ap (λ w. since closer (foundAt c best) v (after w (inTurn W c ws))) (sym (S .gives)) ∙ G .asked));
+                ∙ (sym (too-high q closer (pairAt c s) (W (stripeBy (near .at)) (treeBelow c near)) (W (stripeBy (far .at)) (treeBelow c far)) (stopByStop W c ws) (foundAt c best) v (rw ep at h))
+                ∙ (ap (λ w. since closer (foundAt c best) v (orNext w (stopByStop W c ws))) (sym (S .gives)) ∙ G .asked));
           }
 
       -- law: a slot's own pair joins what was found so far, and its sons are next
       pub visit : Ranks closer → (p : Pair) → p ≡ pairAt c s → p .y ≤ q .y1 → (hit : Bool) → hit ≡ inRange (q .x0) (q .x1) p → (b : ℕ) → Nearer c closer hit s best b
-          → Going W closer c answer (near ∷ far ∷ cond hit [] ws) b (v + 1)
-      unfolding StopsFit slotsAt inTurn
+          → GoesOn W closer c answer (near ∷ far ∷ cond hit [] ws) b (v + 1)
+      unfolding StopsFit slotsAt stopByStop
       visit R p ep h hit eh b N =
           let f = G .few in
           let z = S .slots in
@@ -122,9 +122,9 @@ module _ (W : Stripe → Tree Pair → Walked) (empty : (at : Stripe) → W at n
             );
             some = N .some;
             few = omega arith;
-            asked = (λ i. since closer (N .found i) (v + 1) (after near-is (after far-is (turn-still hit ws i))))
-                ∙ (sym (visited q closer (pairAt c s) near-is far-is (inTurn W c ws) (foundAt c best) v R (rw ep at h) hit (rw ep at eh))
-                ∙ (ap (λ w. since closer (foundAt c best) v (after w (inTurn W c ws))) (sym (S .gives)) ∙ G .asked));
+            asked = (λ i. since closer (N .found i) (v + 1) (orNext near-is (orNext far-is (turn-still hit ws i))))
+                ∙ (sym (visited q closer (pairAt c s) near-is far-is (stopByStop W c ws) (foundAt c best) v R (rw ep at h) hit (rw ep at eh))
+                ∙ (ap (λ w. since closer (foundAt c best) v (orNext w (stopByStop W c ws))) (sym (S .gives)) ∙ G .asked));
           }
 
       -- law: and with fewer slots
