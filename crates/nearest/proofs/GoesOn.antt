@@ -1,4 +1,5 @@
--- A walk goes on from stop to stop, and what is still to be walked gives what was asked.
+-- A walk goes on from stop to stop, and what is still to be walked gives what was asked. It assumes a walk that gives nothing on an empty
+-- tree, and at a slot the two stops of the sons that it asks.
 use Prim.Native.Nat.{ℕ, _+_, _-_, _≤_, _<_}
 use mathlib.Core.Path.{_≡_, refl, sym, ap, _∙_}
 use mathlib.Core.Bool.{Bool, true, false, cond}

@@ -1,4 +1,5 @@
--- The walk goes on, with the stops that wait in the code's rows: one law for each turn of the loop.
+-- The walk goes on, with the stops that wait in the code's rows: one law for each turn of the loop. Each assumes that the walk goes on at the
+-- turn's start, and what the code has read and tested since.
 use Prim.Native.Nat.{ℕ, zero, suc, _+_, _*_, _-_, _≤_, _<_}
 use mathlib.Core.Path.{_≡_, refl, _∙_}
 use mathlib.Core.Bool.{Bool, true, false, cond}

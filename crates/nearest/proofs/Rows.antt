@@ -1,4 +1,4 @@
--- The rows that hold the stops: one more, one less, none.
+-- The rows that hold the stops: one more, one less, none. One more assumes that each row has room for it.
 use Prim.Native.Nat.{ℕ, zero, suc, _+_, _-_, _≤_, _<_}
 use mathlib.Core.Path.{_≡_, refl, sym, ap, _∙_}
 use mathlib.Core.Logic.{_≢_}

@@ -1,4 +1,4 @@
--- A slot's sons as each x walk asks them: smallest x the left one first, largest x the right one.
+-- A slot's sons as each x walk asks them: smallest x the left one first, largest x the right one. It assumes a stop that fits, with a slot.
 use Prim.Native.Nat.{ℕ, suc, _+_, _-_, _≤_}
 use mathlib.Core.Path.{_≡_, refl, _∙_}
 use mathlib.Core.Bool.{Bool, true, false}

@@ -1,4 +1,5 @@
--- The stop where a walk is and the stops that wait: what it relies on there, and at the sons that it asks.
+-- What a walk relies on at a stop holds at the sons that it asks, a level lower. It assumes that a son's link leads to the tree that is read
+-- there, and a stripe with a level below it, or no son.
 use Prim.Native.Nat.{ℕ, zero, suc, _≤_}
 use mathlib.Core.Path.{_≡_, refl, sym, ap, _∙_}
 use mathlib.Core.Bool.{Bool, true, false, cond}

@@ -1,4 +1,5 @@
 -- Walks made one after the other: the second counts only where the first gave nothing, and a slot's own pair only against what is below it.
+-- What a slot's own pair makes of it assumes that the closer of two pairs ranks them.
 use Prim.Native.Nat.{ℕ, _+_, _≤_, _<_}
 use mathlib.Core.Path.{_≡_, refl, sym, ap, _∙_}
 use mathlib.Core.Bool.{Bool, true, false, cond}

@@ -1,4 +1,5 @@
--- The parts of a slim stripe are the parts of the stripe that it stands for, as long as there is more than a single x in it.
+-- The parts of a slim stripe are the parts of the stripe that it stands for, as long as there is more than a single x in it. It assumes a
+-- stripe with so many levels below it, which ends where the root's does or before (`SlimAt`).
 use Prim.Native.Nat.{ℕ, zero, suc, _+_, _-_, _/_, _^_, _≤_}
 use mathlib.Core.Path.{_≡_, refl, sym, ap, _∙_}
 use native.Mathlib.Omega.{arith}

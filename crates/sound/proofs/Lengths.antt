@@ -1,4 +1,4 @@
--- The code's three tests of the length are the definition's.
+-- The code's three tests of the length are the definition's, whatever the length.
 use Prim.Native.Nat.{ℕ, _+_, _*_, _-_, _%_, _≤_, _<_}
 use mathlib.Core.Path.{_≡_, sym, _∙_}
 use mathlib.Core.Bool.{false}

@@ -1,4 +1,5 @@
--- The tree part of the check, one step at a time, as the code takes it.
+-- The tree part of the check, one step at a time, as the code takes it: a son by what it is, and a slot by what its sons gave. Nothing is
+-- assumed of the cells but what the tests have shown.
 use Prim.Native.Nat.{ℕ, zero, suc, _+_, _-_, _≤_, _<_}
 use mathlib.Core.Path.{_≡_, refl, sym, ap, _∙_}
 use mathlib.Core.Bool.{Bool, true, false, cond, not}

@@ -1,4 +1,5 @@
--- A son's own tests, one at a time.
+-- A son's own tests, one at a time: where one fails, what is there is not fine; where they pass, its cells are there. Nothing is assumed
+-- of the cells.
 use Prim.Native.Nat.{ℕ, suc, _-_, _/_, _≤_, _<_}
 use mathlib.Core.Path.{_≡_, refl, sym, _∙_}
 use mathlib.Core.Bool.{Bool, true, false}

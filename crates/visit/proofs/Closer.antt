@@ -1,4 +1,5 @@
--- The closer of a slot's own pair and what was found so far, one way out of the code at a time.
+-- The closer of a slot's own pair and what was found so far, one way out of the code at a time, whatever closer means. It assumes that the
+-- cells of the slot are there, and those of what was found.
 use Prim.Native.Nat.{ℕ, _≤_}
 use mathlib.Core.Path.{_≡_, refl}
 use mathlib.Core.Bool.{Bool, true, false}

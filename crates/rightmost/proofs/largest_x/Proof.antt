@@ -1,4 +1,5 @@
--- The invariant: what is still to be walked, after what was found so far, gives the answer.
+-- The invariant: what is still to be walked, after what was found so far, gives the answer. It assumes a sound pool; each turn takes away a
+-- slot that is still to be walked, or a stop that waits.
 use Prim.Native.Nat.{_<_}
 use mathlib.Core.Path.{refl}
 use native.Mathlib.Omega.{arith}

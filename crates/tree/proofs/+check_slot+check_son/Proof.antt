@@ -1,4 +1,5 @@
--- A slot tests its sons, and a son that has sons goes on there with a level less.
+-- A slot tests its sons, and a son that has sons goes on there with a level less. It assumes that the slot's cells are there, and a stripe
+-- that ends where the root's does or before.
 use Prim.Native.Nat.{ℕ, _+_, _*_, _<_}
 use native.Mathlib.Omega.{arith}
 use Rattle.kinds.proofs.Stripes.{low-left, low-right}

@@ -1,4 +1,4 @@
--- The root's own tests, then its sons.
+-- The root's own tests, then its sons. It assumes that the length is a pool's.
 use native.Mathlib.Omega.{arith}
 use borrow.Author.Tests.{not-true, not-false}
 use Rattle.kinds.proofs.Stripes.{low-root}

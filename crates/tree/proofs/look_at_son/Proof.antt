@@ -1,4 +1,4 @@
--- Each way out is one case.
+-- Each way out is one case of `SonIs`. Nothing is assumed: a son's cells are read once its number has been tested.
 use mathlib.Core.Path.{sym, _∙_}
 use native.Mathlib.Omega.{arith}
 use borrow.Author.Tests.{not-true, not-false}

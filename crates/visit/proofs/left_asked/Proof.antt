@@ -1,4 +1,4 @@
--- Each way out is one test.
+-- Each way out is one test. It assumes that the slot's cells are there, and that the middle fits 32 bits.
 use borrow.Author.Needs.{needs}
 use mathlib.Core.Path.{_∙_, sym}
 use Rattle.visit.specs.Asking.{leftAsked}

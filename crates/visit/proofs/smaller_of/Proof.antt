@@ -1,4 +1,5 @@
--- A slot that is no hit changes nothing; a hit stands unless what was found so far is closer.
+-- A slot that is no hit changes nothing; a hit is taken unless what was found so far is closer. It assumes that the cells of the slot are
+-- there, and those of what was found.
 use borrow.Author.Needs.{needs}
 use borrow.Author.Tests.{lt-ltb, le-ltb, not-true, not-false}
 use Rattle.plain.specs.Plain.{smaller}

@@ -1,4 +1,4 @@
--- The middle is the definition's.
+-- The middle is the definition's. It assumes that it fits 32 bits.
 use borrow.Author.Needs.{needs}
 use Rattle.slim.proofs.Slim.goes_left.Statement.{statement}
 use Rattle.slim.proofs.Slim.goes_left.Tie as tie

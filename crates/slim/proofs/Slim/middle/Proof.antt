@@ -1,4 +1,4 @@
--- Half of the sum of the ends is the lower end and half of the width.
+-- Half of the sum of the ends is the lower end and half of the width. It assumes that this fits 32 bits.
 use mathlib.Core.Path.{sym}
 use borrow.Author.Needs.{needs}
 use Rattle.slim.proofs.Slims.{middle-by}
