@@ -14,7 +14,7 @@ pub fn smallest_x(pool: &[u32], x0: u32, x1: u32, y1: u32) -> Answer
     if x1 < x0 {
         return Answer::refused(codes::BACKWARDS);
     }
-    Answer::walked(nearest::smallest_x(pool, x0, x1, y1))
+    Answer::walked(leftmost::smallest_x(pool, x0, x1, y1))
 }
 
 // Of the pairs with x0 ≤ x ≤ x1 and y ≤ y1, the one with the largest x.
@@ -25,7 +25,7 @@ pub fn largest_x(pool: &[u32], x0: u32, x1: u32, y1: u32) -> Answer
     if x1 < x0 {
         return Answer::refused(codes::BACKWARDS);
     }
-    Answer::walked(nearest::largest_x(pool, x0, x1, y1))
+    Answer::walked(rightmost::largest_x(pool, x0, x1, y1))
 }
 
 // Of the pairs with x0 ≤ x ≤ x1, the one with the smallest y; on equal y the one with the smaller x.
@@ -49,7 +49,7 @@ pub fn first_to_end(pool: &[u32], u: u32) -> Answer
         return Answer::refused(code);
     }
     let q = strip::covers(u);
-    Answer::walked(nearest::smallest_x(pool, q.x0, q.x1, q.y1))
+    Answer::walked(leftmost::smallest_x(pool, q.x0, q.x1, q.y1))
 }
 
 // The strip that covers slot u and ends last, no later than e.
@@ -62,7 +62,7 @@ pub fn last_to_end(pool: &[u32], u: u32, e: u32) -> Answer
         return Answer::refused(code);
     }
     let q = strip::last(u, e);
-    Answer::walked(nearest::largest_x(pool, q.x0, q.x1, q.y1))
+    Answer::walked(rightmost::largest_x(pool, q.x0, q.x1, q.y1))
 }
 
 // Of the strips that end in u..v, the one with the earliest start.

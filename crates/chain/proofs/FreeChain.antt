@@ -1,4 +1,4 @@
--- The free chain's part of the check, one step at a time, as the code takes it.
+-- The free chain's part of the check, one step at a time, as the code takes it. Nothing is assumed of the cells but what the tests have shown.
 use Prim.Native.Nat.{ℕ, suc, _-_, _/_, _≤_, _<_}
 use mathlib.Core.Path.{_≡_, refl, sym, _∙_}
 use mathlib.Core.Bool.{Bool, true, false, _&&_}

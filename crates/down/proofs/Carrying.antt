@@ -1,5 +1,5 @@
 -- A pair that goes down, a level at a time: at an empty place it takes the free slot; at a slot the better pair stays, the beaten one can go
--- down from the son's place on its side, and where it has, the first has gone down here.
+-- down from the son's place on its side, and where it has, the first has gone down here. It assumes that the first can (`Going`).
 use Prim.Native.Nat.{ℕ, suc, _+_, _*_, _-_, _≤_, _<_}
 use mathlib.Core.Path.{_≡_, refl, sym, ap, _∙_, subst}
 use mathlib.Core.Logic.{_≢_, ⊎-elim}

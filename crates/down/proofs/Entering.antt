@@ -1,4 +1,5 @@
--- A pair that enters a sound pool: it can go down from the root, and where it has and the count has moved, it is inserted.
+-- A pair that enters a sound pool: it can go down from the root, and where it has and the count has moved, it is inserted. It assumes that
+-- its x is new and has 32 bits, and that a slot is free.
 use Prim.Native.Nat.{ℕ, _+_, _<_}
 use mathlib.Core.Path.{_≡_, sym}
 use mathlib.Core.List.{List}

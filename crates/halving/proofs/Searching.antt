@@ -1,4 +1,5 @@
--- The search below a slot, a step at a time.
+-- The search below a slot, a step at a time: nothing is there, x is met, or it goes on to x's side of the middle. It assumes that the links
+-- lead to the tree that is read (`Sought`).
 use Prim.Native.Nat.{ℕ, suc, _-_}
 use mathlib.Core.Path.{_≡_, sym}
 use mathlib.Core.Bool.{Bool, true, false, cond}

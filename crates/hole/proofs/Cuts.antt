@@ -1,5 +1,5 @@
--- How a slot is cut, seen from one of its sons: a hole is filled from the heir's side, and x is taken out on its own; so x is taken out at the
--- place where the way to it ends.
+-- How a slot is cut, seen from one of its sons: a hole is filled from the heir's side, and x is taken out on its own; so in a sound pool x is
+-- taken out at the place where the way to it ends.
 use Prim.Native.Nat.{ℕ, suc}
 use mathlib.Core.Path.{_≡_, refl, ap, _∙_}
 use mathlib.Core.Logic.{_≢_}

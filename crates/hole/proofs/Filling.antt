@@ -1,5 +1,5 @@
 -- The filling of a hole, a level at a time: a slot with no sons is given up; else the heir's pair moves up, the hole is at the heir's place,
--- and where that is filled, so is the first.
+-- and where that is filled, so is the first. It assumes a place with a slot (`Hole`).
 use Prim.Native.Nat.{ℕ, suc, _-_, _/_}
 use mathlib.Core.Path.{_≡_, refl, sym, ap, _∙_}
 use mathlib.Core.Logic.{_≢_}

@@ -1,4 +1,4 @@
--- The heir of a slot, as the code finds it, and what is known of the one that it found.
+-- The heir of a slot, as the code finds it, and what is known of the one that it found. It assumes the links that the code has read.
 use Prim.Native.Nat.{ℕ}
 use mathlib.Core.Path.{_≡_, refl, sym, _∙_}
 use mathlib.Core.Logic.{_≢_}

@@ -1,4 +1,5 @@
--- The walk for the smallest y, one step at a time, as the code takes it.
+-- The walk for the smallest y, one step at a time, as the code takes it: the lower of two findings, a son that is asked or not, a slot. It
+-- assumes what a walk may rely on (`Asked`).
 use Prim.Native.Nat.{ℕ, suc, _+_, _-_, _≤_, _<_}
 use mathlib.Core.Path.{_≡_, refl, sym, _∙_}
 use mathlib.Core.Bool.{Bool, true, false, not}

@@ -1,9 +1,7 @@
 -- The laws that the proofs of the x walks cite.
-pub mod Closer
 pub mod Turns
-pub mod Cuts
-pub mod Places
+pub mod Stops
 pub mod Sides
 pub mod Rows
-pub mod Going
-pub mod Held
+pub mod GoesOn
+pub mod InRows

@@ -1,4 +1,4 @@
--- The rows that hold the places: one more, one less, none.
+-- The rows that hold the stops: one more, one less, none. One more assumes that each row has room for it.
 use Prim.Native.Nat.{ℕ, zero, suc, _+_, _-_, _≤_, _<_}
 use mathlib.Core.Path.{_≡_, refl, sym, ap, _∙_}
 use mathlib.Core.Logic.{_≢_}
@@ -9,8 +9,8 @@ use native.Mathlib.Numerals.{add-one}
 use lib.ListN.{length, getD, set}
 use lib.Seq.{getD-set-same, getD-set-other}
 use Rattle.pools.proofs.Leads.{back}
-use Rattle.nearest.specs.declared.cut.Cut.{Cut}
-use Rattle.nearest.specs.Waiting.{place, waiting}
+use Rattle.slim.specs.declared.Slim.{Slim}
+use Rattle.nearest.specs.Waiting.{stop, waiting}
 
 module _ (slots lowers halves : List ℕ) where
   pub waiting-length : (n : ℕ) → length (waiting slots lowers halves n) ≡ n
@@ -29,16 +29,16 @@ module _ (slots lowers halves : List ℕ) where
   waiting-still false n = refl
 
   one-less : (n : ℕ) → waiting slots lowers halves (suc n)
-      ≡ place (getD slots n 0) (record { lower = getD lowers n 0; half = getD halves n 0 }) ∷ waiting slots lowers halves n
+      ≡ stop (getD slots n 0) (record { lower = getD lowers n 0; half = getD halves n 0 }) ∷ waiting slots lowers halves n
   unfolding waiting
   one-less n = refl
 
   -- law: the last one, and the others
   pub waiting-last : (n : ℕ) → (n ≡ 0 → ⊥) → waiting slots lowers halves n
-      ≡ place (getD slots (n - 1) 0) (record { lower = getD lowers (n - 1) 0; half = getD halves (n - 1) 0 }) ∷ waiting slots lowers halves (n - 1)
+      ≡ stop (getD slots (n - 1) 0) (record { lower = getD lowers (n - 1) 0; half = getD halves (n - 1) 0 }) ∷ waiting slots lowers halves (n - 1)
   waiting-last n ne = ap (λ m. waiting slots lowers halves m) (sym (back n ne)) ∙ one-less (n - 1)
 
-  -- what is stored behind the places leaves them as they are
+  -- what is stored behind the stops leaves them as they are
   module _ (m s l u : ℕ) where
     kept : (n : ℕ) → n ≤ m → waiting (set slots m s) (set lowers m l) (set halves m u) n ≡ waiting slots lowers halves n
     unfolding waiting
@@ -48,8 +48,8 @@ module _ (slots lowers halves : List ℕ) where
         rw (getD-set-other slots m n s 0 ne, getD-set-other lowers m n l 0 ne, getD-set-other halves m n u 0 ne, kept n (omega arith))
 
   -- law: one more
-  pub waiting-more : (n s : ℕ) (at : Cut) → n < length slots → n < length lowers → n < length halves
-      → waiting (set slots n s) (set lowers n (at .lower)) (set halves n (at .half)) (n + 1) ≡ place s at ∷ waiting slots lowers halves n
+  pub waiting-more : (n s : ℕ) (at : Slim) → n < length slots → n < length lowers → n < length halves
+      → waiting (set slots n s) (set lowers n (at .lower)) (set halves n (at .half)) (n + 1) ≡ stop s at ∷ waiting slots lowers halves n
   unfolding waiting
   waiting-more n s at a b d =
       rw (add-one n)

@@ -1,4 +1,4 @@
--- A slot's sons as each x walk asks them: smallest x the left one first, largest x the right one.
+-- A slot's sons as each x walk asks them: smallest x the left one first, largest x the right one. It assumes a stop that fits, with a slot.
 use Prim.Native.Nat.{ℕ, suc, _+_, _-_, _≤_}
 use mathlib.Core.Path.{_≡_, refl, _∙_}
 use mathlib.Core.Bool.{Bool, true, false}
@@ -17,24 +17,24 @@ use Rattle.trees.specs.Tree.{Tree, none, fork, size, Within}
 use Rattle.walks.specs.Walks.{seen, ask, byX, smallestX, largestX}
 use Rattle.plain.proofs.Closest.{Ranks, by-smaller, by-larger}
 use Rattle.pools.proofs.Leads.{within-more, tree-fork, leads-son}
-use Rattle.nearest.specs.declared.cut.Cut.{Cut}
-use Rattle.nearest.specs.Asking.{leftAsked, rightAsked}
-use Rattle.nearest.specs.Cuts.{stripeBy, leftCut, rightCut}
-use Rattle.nearest.specs.Waiting.{Place, place, treeOf, Stands}
-use Rattle.nearest.proofs.Cuts.{left-at, right-at, left-same, right-same}
-use Rattle.nearest.proofs.Places.{asked-walk, asked-within, asked-stands, asked-size}
+use Rattle.slim.specs.declared.Slim.{Slim}
+use Rattle.visit.specs.Asking.{leftAsked, rightAsked}
+use Rattle.slim.specs.Slim.{stripeBy, leftSlim, rightSlim}
+use Rattle.nearest.specs.Waiting.{Stop, stop, treeBelow, StopFits}
+use Rattle.slim.proofs.Slims.{left-at, right-at}
+use Rattle.nearest.proofs.Stops.{asked-walk, asked-within, asked-fits, asked-size, left-same, right-same}
 
 -- what both x walks have: nothing on an empty tree, and a closer x that ranks
 pub record ByX (W : Stripe → Tree Pair → Walked) (closer : Pair → Pair → Bool) : Type 0 where
   pub empty : (at : Stripe) → W at none ≡ seen Nothing 0
   pub ranks : Ranks closer
 
--- two places are a slot's sons as a walk asks them: the rule gives its answer by theirs, and each has a level less
-pub record Sons (W : Stripe → Tree Pair → Walked) (closer : Pair → Pair → Bool) (q : Limits) (c : List ℕ) (k : ℕ) (here near far : Place) : Type 0 where
-  pub gives : W (stripeBy (here .at)) (treeOf c here) ≡ byX closer q (pairAt c (here .slot)) (W (stripeBy (near .at)) (treeOf c near)) (W (stripeBy (far .at)) (treeOf c far))
-  pub slots : size (treeOf c near) + size (treeOf c far) + 1 ≤ size (treeOf c here)
-  pub near-stands : (j : ℕ) → k ≤ suc j → Stands c j near
-  pub far-stands : (j : ℕ) → k ≤ suc j → Stands c j far
+-- two stops are a slot's sons as a walk asks them: the rule gives its answer by theirs, and each has a level less
+pub record SonsAsked (W : Stripe → Tree Pair → Walked) (closer : Pair → Pair → Bool) (q : Limits) (c : List ℕ) (k : ℕ) (here near far : Stop) : Type 0 where
+  pub gives : W (stripeBy (here .at)) (treeBelow c here) ≡ byX closer q (pairAt c (here .slot)) (W (stripeBy (near .at)) (treeBelow c near)) (W (stripeBy (far .at)) (treeBelow c far))
+  pub slots : size (treeBelow c near) + size (treeBelow c far) + 1 ≤ size (treeBelow c here)
+  pub near-fits : (j : ℕ) → k ≤ suc j → StopFits c j near
+  pub far-fits : (j : ℕ) → k ≤ suc j → StopFits c j far
 
 pub smallest : (q : Limits) → ByX (smallestX q) smaller
 unfolding smallestX
@@ -44,7 +44,7 @@ pub largest : (q : Limits) → ByX (largestX q) larger
 unfolding largestX
 largest q = record { empty = λ at. refl; ranks = by-larger }
 
-module _ (c : List ℕ) (k s : ℕ) (at : Cut) (q : Limits) (o : Stands c k (place s at)) (ne : s ≡ 0 → ⊥) where
+module _ (c : List ℕ) (k s : ℕ) (at : Slim) (q : Limits) (o : StopFits c k (stop s at)) (ne : s ≡ 0 → ⊥) where
   left-leads : Leads c (leftAt c s) (treeAt c lowLevels (leftAt c s))
   unfolding sonAt
   left-leads = leads-son c lowLevels s true (o .leads) ne
@@ -66,15 +66,15 @@ module _ (c : List ℕ) (k s : ℕ) (at : Cut) (q : Limits) (o : Stands c k (pla
   room : (t : Tree Pair) → Within (o .height) t → Within (suc (o .height - 1)) t
   room t w = within-more (o .height) (suc (o .height - 1)) t (omega arith) w
 
-  left-stands : (j : ℕ) → k ≤ suc j → Stands c j (place (leftAsked c s (stripeBy at) (q .x0)) (leftCut at))
+  left-fits : (j : ℕ) → k ≤ suc j → StopFits c j (stop (leftAsked c s (stripeBy at) (q .x0)) (leftSlim at))
   unfolding leftAsked
-  left-stands j h =
-      asked-stands c (ltb (q .x0) (middle (stripeBy at))) (leftAt c s) j (o .height - 1) (leftCut at) left-leads (below j h .0) (left-at (o .height) at (o .cut)) (room (treeAt c lowLevels (leftAt c s)) (lower .0))
+  left-fits j h =
+      asked-fits c (ltb (q .x0) (middle (stripeBy at))) (leftAt c s) j (o .height - 1) (leftSlim at) left-leads (below j h .0) (left-at (o .height) at (o .slim)) (room (treeAt c lowLevels (leftAt c s)) (lower .0))
 
-  right-stands : (j : ℕ) → k ≤ suc j → Stands c j (place (rightAsked c s (stripeBy at) (q .x1)) (rightCut at))
+  right-fits : (j : ℕ) → k ≤ suc j → StopFits c j (stop (rightAsked c s (stripeBy at) (q .x1)) (rightSlim at))
   unfolding rightAsked
-  right-stands j h =
-      asked-stands c (leb (middle (stripeBy at)) (q .x1)) (rightAt c s) j (o .height - 1) (rightCut at) right-leads (below j h .1) (right-at (o .height) at (o .cut)) (room (treeAt c lowLevels (rightAt c s)) (lower .1))
+  right-fits j h =
+      asked-fits c (leb (middle (stripeBy at)) (q .x1)) (rightAt c s) j (o .height - 1) (rightSlim at) right-leads (below j h .1) (right-at (o .height) at (o .slim)) (room (treeAt c lowLevels (rightAt c s)) (lower .1))
 
   sizes : size (treeAt c allLevels (leftAsked c s (stripeBy at) (q .x0))) + size (treeAt c allLevels (rightAsked c s (stripeBy at) (q .x1))) + 1 ≤ size (treeAt c allLevels s)
   unfolding leftAsked rightAsked
@@ -85,17 +85,17 @@ module _ (c : List ℕ) (k s : ℕ) (at : Cut) (q : Limits) (o : Stands c k (pla
 
   -- what the left son gives, and the right one, to either walk
   module _ (W : Stripe → Tree Pair → Walked) (empty : (at : Stripe) → W at none ≡ seen Nothing 0) where
-    left-walk : ask (ltb (q .x0) (middle (stripeBy at))) (W (leftPart (stripeBy at)) (treeAt c lowLevels (leftAt c s))) ≡ W (stripeBy (leftCut at)) (treeAt c allLevels (leftAsked c s (stripeBy at) (q .x0)))
+    left-walk : ask (ltb (q .x0) (middle (stripeBy at))) (W (leftPart (stripeBy at)) (treeAt c lowLevels (leftAt c s))) ≡ W (stripeBy (leftSlim at)) (treeAt c allLevels (leftAsked c s (stripeBy at) (q .x0)))
     unfolding leftAsked
     left-walk =
         asked-walk c W empty (ltb (q .x0) (middle (stripeBy at))) (leftAt c s) (leftPart (stripeBy at)) left-leads
-        ∙ left-same W empty (o .height) at (o .cut) _ (asked-within c (ltb (q .x0) (middle (stripeBy at))) (leftAt c s) (o .height) left-leads (lower .0))
+        ∙ left-same W empty (o .height) at (o .slim) _ (asked-within c (ltb (q .x0) (middle (stripeBy at))) (leftAt c s) (o .height) left-leads (lower .0))
 
-    right-walk : ask (leb (middle (stripeBy at)) (q .x1)) (W (rightPart (stripeBy at)) (treeAt c lowLevels (rightAt c s))) ≡ W (stripeBy (rightCut at)) (treeAt c allLevels (rightAsked c s (stripeBy at) (q .x1)))
+    right-walk : ask (leb (middle (stripeBy at)) (q .x1)) (W (rightPart (stripeBy at)) (treeAt c lowLevels (rightAt c s))) ≡ W (stripeBy (rightSlim at)) (treeAt c allLevels (rightAsked c s (stripeBy at) (q .x1)))
     unfolding rightAsked
     right-walk =
         asked-walk c W empty (leb (middle (stripeBy at)) (q .x1)) (rightAt c s) (rightPart (stripeBy at)) right-leads
-        ∙ right-same W empty (o .height) at (o .cut) _ (asked-within c (leb (middle (stripeBy at)) (q .x1)) (rightAt c s) (o .height) right-leads (lower .1))
+        ∙ right-same W empty (o .height) at (o .slim) _ (asked-within c (leb (middle (stripeBy at)) (q .x1)) (rightAt c s) (o .height) right-leads (lower .1))
 
   smallest-fork : smallestX q (stripeBy at) (treeAt c allLevels s)
       ≡ byX smaller q (pairAt c s) (ask (ltb (q .x0) (middle (stripeBy at))) (smallestX q (leftPart (stripeBy at)) (treeAt c lowLevels (leftAt c s))))
@@ -109,21 +109,21 @@ module _ (c : List ℕ) (k s : ℕ) (at : Cut) (q : Limits) (o : Stands c k (pla
   unfolding largestX
   largest-fork = rw here-is
 
-  module _ (l r : ℕ) (lp rp : Cut) (el : l ≡ leftAsked c s (stripeBy at) (q .x0)) (er : r ≡ rightAsked c s (stripeBy at) (q .x1)) (elp : lp ≡ leftCut at) (erp : rp ≡ rightCut at) where
+  module _ (l r : ℕ) (lp rp : Slim) (el : l ≡ leftAsked c s (stripeBy at) (q .x0)) (er : r ≡ rightAsked c s (stripeBy at) (q .x1)) (elp : lp ≡ leftSlim at) (erp : rp ≡ rightSlim at) where
     -- law: smallest x asks left, then right
-    pub smallest-sons : Sons (smallestX q) smaller q c k (place s at) (place l lp) (place r rp)
+    pub smallest-sons : SonsAsked (smallestX q) smaller q c k (stop s at) (stop l lp) (stop r rp)
     smallest-sons = rw (el, er, elp, erp) (record {
       gives = smallest-fork ∙ (λ i. byX smaller q (pairAt c s) (left-walk (smallestX q) (smallest q .empty) i) (right-walk (smallestX q) (smallest q .empty) i));
       slots = sizes;
-      near-stands = left-stands;
-      far-stands = right-stands;
+      near-fits = left-fits;
+      far-fits = right-fits;
     })
 
     -- law: largest x asks right, then left
-    pub largest-sons : Sons (largestX q) larger q c k (place s at) (place r rp) (place l lp)
+    pub largest-sons : SonsAsked (largestX q) larger q c k (stop s at) (stop r rp) (stop l lp)
     largest-sons = rw (el, er, elp, erp) (record {
       gives = largest-fork ∙ (λ i. byX larger q (pairAt c s) (right-walk (largestX q) (largest q .empty) i) (left-walk (largestX q) (largest q .empty) i));
       slots = omega (arith, sizes);
-      near-stands = right-stands;
-      far-stands = left-stands;
+      near-fits = right-fits;
+      far-fits = left-fits;
     })

@@ -1,4 +1,1 @@
-pub mod Nearer
-pub mod Cuts
-pub mod Asking
 pub mod Waiting

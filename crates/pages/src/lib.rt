@@ -61,7 +61,7 @@ pub fn put_pairs(pool: &[u32], bytes: &mut [u8])
     let mut at = HEAD;
     let mut x0: u32 = 0;
     loop {
-        let w = nearest::smallest_x(pool, x0, LAST, LAST);
+        let w = leftmost::smallest_x(pool, x0, LAST, LAST);
         let f = w.finding;
         let Finding::Found(p) = f else {
             break;

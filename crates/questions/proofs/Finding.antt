@@ -1,4 +1,4 @@
--- What a slot's number stands for.
+-- What a slot's number stands for: 0 for nothing, any other for the slot's pair.
 use Prim.Native.Nat.{ℕ}
 use mathlib.Core.Path.{_≡_, refl, sym}
 use mathlib.Core.Bool.{not}

@@ -1,4 +1,4 @@
--- What a walk relies on at a slot's sons, in whichever order they are asked.
+-- What a walk relies on at a slot's sons, in whichever order they are asked. It assumes the same of the slot (`Asked`).
 use Prim.Native.Nat.{ℕ, suc, _+_, _-_, _≤_, _<_}
 use mathlib.Core.Path.{_≡_}
 use mathlib.Core.Bool.{true, false}

@@ -1,4 +1,5 @@
--- What a walk makes of a son's place: nothing where no son is, or where its side is not asked.
+-- What a walk makes of a son's place: nothing where no son is, or where its side is not asked. It assumes a walk that gives nothing on an
+-- empty tree.
 use Prim.Native.Nat.{ℕ, suc, _-_}
 use mathlib.Core.Path.{_≡_, refl}
 use mathlib.Core.Bool.{Bool, true, false}

@@ -1,4 +1,4 @@
--- The loop of set up, a turn at a time: what is still to be chained, done, is what was to be chained.
+-- The loop of set up, a turn at a time: what is still to be chained, done, is what was to be chained. It assumes that the length is a pool's.
 use Prim.Native.Nat.{ℕ, suc, _+_, _-_, _<_}
 use mathlib.Core.Path.{_≡_}
 use mathlib.Core.List.{List}

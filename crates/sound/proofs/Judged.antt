@@ -1,4 +1,4 @@
--- The verdict, by its two tests, and the check's answer by the verdict.
+-- The verdict, by its two tests, and the check's answer by the verdict. Nothing is assumed of the cells.
 use Prim.Native.Nat.{ℕ}
 use mathlib.Core.Path.{_≡_, refl, sym, _∙_}
 use mathlib.Core.Bool.{Bool, true, false}

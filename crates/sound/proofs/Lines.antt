@@ -1,4 +1,5 @@
--- The check's two lines, which come first in every call's table, by the verdict on its pool.
+-- The check's two lines, which come first in every call's table, by the verdict on its pool: where it is 0 the pool is sound and the call's
+-- own lines decide, and else it is the code. Nothing is assumed of the cells.
 use Prim.Native.Nat.{ℕ}
 use mathlib.Core.Path.{_≡_, sym, ap, _∙_}
 use mathlib.Core.Logic.{_≢_}

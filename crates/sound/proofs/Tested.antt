@@ -1,4 +1,5 @@
 -- A looped pool does not make the check wander: the slots that pass their own tests all differ, and at the first that does not the check ends.
+-- Nothing is assumed of the cells.
 use Prim.Native.Nat.{ℕ, zero, suc, _+_, _≤_}
 use mathlib.Core.Path.{_≡_, sym, refl, subst}
 use mathlib.Core.Logic.{⊎-elim}

@@ -1,4 +1,4 @@
--- The parts of the check put together.
+-- The parts of the check put together: the mark, the tree, the rest. It assumes that the length is a pool's.
 use Prim.Native.Nat.{ℕ}
 use mathlib.Core.Path.{_≡_, refl, sym, ap, _∙_}
 use mathlib.Core.Bool.{Bool, true, false, _&&_}

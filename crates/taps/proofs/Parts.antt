@@ -1,4 +1,4 @@
--- A part of a slice, from a place on to its end.
+-- A part of a slice, from an index on to its end. It assumes that the index is no further than the end.
 use Prim.Native.Nat.{ℕ, _+_, _-_, _≤_}
 use mathlib.Core.List.{List}
 use native.Mathlib.Omega.{arith}

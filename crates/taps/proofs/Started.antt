@@ -1,4 +1,4 @@
--- The pool that the program starts with.
+-- The pool that the program starts with: set up makes its cells a sound one, whatever they held.
 use Prim.Native.Nat.{ℕ}
 use mathlib.Core.Path.{_≡_}
 use mathlib.Core.List.{List}

@@ -20,8 +20,8 @@ struct Held {
     open: bool,
 }
 
-// Where the next line starts in the input, and what the output holds.
-struct Place {
+// How far the lines of the input are answered, which is where the next one starts, and what the output holds.
+struct Reached {
     from: usize,
     held: Held,
 }
@@ -77,7 +77,7 @@ fn answer_lines(
     input: &[u8],
     to: usize,
     output: &mut [u8],
-) -> Place
+) -> Reached
     requires { ⌜ Sound (now cells) × (to ≤ length (now input)) ⌝ }
     ensures { λ r. ⌜ Sound (now (cells .exit)) × (r .from ≤ to) × (r .held .bytes ≤ length (now (output .exit))) ⌝ }
 {
@@ -94,7 +94,7 @@ fn answer_lines(
         held = answer(cells, room, &input[from..end], output, held.bytes);
         from = end + 1;
     }
-    Place { from, held }
+    Reached { from, held }
 }
 
 // The start of an unended line goes to the front of the input; of a longer one than a line may be, no more than shows that.
@@ -140,8 +140,8 @@ fn turn(
         return Left { kept, more: false };
     }
     let to = kept + got;
-    let p = answer_lines(cells, room, input, to, output);
-    let held = p.held;
+    let reached = answer_lines(cells, room, input, to, output);
+    let held = reached.held;
     if !finish(output, held) {
         return Left {
             kept: 0,
@@ -149,7 +149,7 @@ fn turn(
         };
     }
     Left {
-        kept: keep(input, p.from, to),
+        kept: keep(input, reached.from, to),
         more: true,
     }
 }

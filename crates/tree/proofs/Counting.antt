@@ -1,4 +1,5 @@
--- The tree part of the check, one step at a time, as the code takes it.
+-- The tree part of the check, one step at a time, as the code takes it: a son by what it is, and a slot by what its sons gave. Nothing is
+-- assumed of the cells but what the tests have shown.
 use Prim.Native.Nat.{ℕ, zero, suc, _+_, _-_, _≤_, _<_}
 use mathlib.Core.Path.{_≡_, refl, sym, ap, _∙_}
 use mathlib.Core.Bool.{Bool, true, false, cond, not}
@@ -9,7 +10,7 @@ use lib.Dec.{ltb}
 use borrow.Author.Tests.{eq-eqb, ne-eqb}
 use Rattle.kinds.specs.declared.Pair.{Pair}
 use Rattle.kinds.specs.Pairs.{beats}
-use Rattle.kinds.specs.Stripe.{Stripe, Low, middle, leftPart, rightPart}
+use Rattle.kinds.specs.Stripe.{lowLevels, Stripe, Low, middle, leftPart, rightPart}
 use Rattle.trees.specs.Tree.{size}
 use Rattle.trees.specs.Changes.{met}
 use Rattle.pools.specs.Cells.{Fits, pairAt, leftAt, rightAt, treeAt}
@@ -17,12 +18,12 @@ use Rattle.pools.specs.Test.{slotFine, alone, fine, below}
 use Rattle.pools.proofs.Leads.{back, tree-none, tree-fork, few}
 use Rattle.pools.proofs.Decided.{fine-true}
 use Rattle.halving.specs.Sought.{Sought}
-use Rattle.tree.proofs.Places.{fine-fits}
+use Rattle.tree.proofs.Sons.{fine-fits}
 use Rattle.tree.specs.declared.Checked.{Checked}
 use Rattle.tree.specs.declared.Checked.the-variants.{Counted, Faulty}
-use Rattle.tree.specs.declared.Place.{Place}
-use Rattle.tree.specs.declared.Place.the-variants.{Empty, Leaf, Fork, Bad}
-use Rattle.tree.specs.Checked.{counted, fromLink, fromSlot, Stands, empty, leaf, branch, bad}
+use Rattle.tree.specs.declared.Son.{Son}
+use Rattle.tree.specs.declared.Son.the-variants.{Empty, Leaf, Fork, Bad}
+use Rattle.tree.specs.Checked.{counted, fromLink, fromSlot, SonIs, empty, leaf, branch, bad}
 
 pub was-counted : (b : Bool) (n a : ℕ) → counted b n ≡ Counted a → (b ≡ true) × (n ≡ a)
 was-counted true n a h = (refl, cc)
@@ -32,7 +33,7 @@ pub was-faulty : (b : Bool) (n : ℕ) → counted b n ≡ Faulty → b ≡ false
 was-faulty true n h = cc
 was-faulty false n h = refl
 
--- a son's place, by what stands there
+-- a son, by what it is
 fine-empty : (c : List ℕ) (k : ℕ) (p : Pair) (s : ℕ) (at : Stripe) → s ≡ 0 → fine c k p s at ≡ true
 unfolding fine
 fine-empty c zero p s at e = eq-eqb s 0 e
@@ -62,20 +63,20 @@ module _ (c : List ℕ) (k : ℕ) (p : Pair) (s : ℕ) (at : Stripe) where
       go true = refl
       go false = refl
 
-  -- what place_of says, at each of its cases
-  pub son-empty : {pl : Place} → Stands c k p s at pl → pl ≡ Empty → Counted 0 ≡ fromLink c k p s at
+  -- what look_at_son says, at each of its cases
+  pub son-empty : {what : Son} → SonIs c k p s at what → what ≡ Empty → Counted 0 ≡ fromLink c k p s at
   son-empty (empty e) t = none-there e
   son-empty (leaf a b d e f g) t = cc
   son-empty (branch a b d e) t = cc
   son-empty (bad e) t = cc
 
-  pub son-leaf : {pl : Place} → Stands c k p s at pl → pl ≡ Leaf → Counted 1 ≡ fromLink c k p s at
+  pub son-leaf : {what : Son} → SonIs c k p s at what → what ≡ Leaf → Counted 1 ≡ fromLink c k p s at
   son-leaf (empty e) t = cc
   son-leaf (leaf ne d f b l r) t = nothing-below (k - 1) l r ∙ slot-there (k - 1) (sym (back k d)) ne f b
   son-leaf (branch a b d e) t = cc
   son-leaf (bad e) t = cc
 
-  pub son-bad : {pl : Place} → Stands c k p s at pl → pl ≡ Bad → Faulty ≡ fromLink c k p s at
+  pub son-bad : {what : Son} → SonIs c k p s at what → what ≡ Bad → Faulty ≡ fromLink c k p s at
   unfolding fromLink
   son-bad (empty e) t = cc
   son-bad (leaf a b d e f g) t = cc
@@ -88,7 +89,7 @@ module _ (c : List ℕ) (k : ℕ) (p : Pair) (s : ℕ) (at : Stripe) where
     pub fine : slotFine c s at ≡ true
     pub beaten : beats p (pairAt c s) ≡ true
 
-  pub son-fork : {pl : Place} → Stands c k p s at pl → pl ≡ Fork → Branch
+  pub son-fork : {what : Son} → SonIs c k p s at what → what ≡ Fork → Branch
   son-fork (empty e) t = let z : _≡_ {A = ℕ} 0 1 = cc in absurd (omega arith)
   son-fork (leaf a b d e f g) t = let z : _≡_ {A = ℕ} 0 1 = cc in absurd (omega arith)
   son-fork (branch a b d e) t = record { some = a; deep = b; fine = d; beaten = e }
@@ -154,7 +155,7 @@ may-search c k p s sp at u a eu ea l =
     record { leads = fine-true c k p s sp (was-counted _ _ _ (sym eu ∙ ea) .0) .fine .leads; low = l }
 
 -- a count is of few slots
-pub few-counted : (c : List ℕ) (k : ℕ) (p : Pair) (s : ℕ) (at : Stripe) (u : Checked) (a : ℕ) → k ≤ 32 → u ≡ fromLink c k p s at → u ≡ Counted a
+pub few-counted : (c : List ℕ) (k : ℕ) (p : Pair) (s : ℕ) (at : Stripe) (u : Checked) (a : ℕ) → k ≤ lowLevels → u ≡ fromLink c k p s at → u ≡ Counted a
     → a < 4294967296
 unfolding fromLink
 few-counted c k p s at u a h eu ea =

@@ -1,4 +1,4 @@
--- The root: it has no father.
+-- The root: it has no father, so its own tests are those of its number and its stripe. It assumes the link and the stripe that the code has.
 use Prim.Native.Nat.{ℕ}
 use mathlib.Core.Path.{_≡_, sym, _∙_}
 use mathlib.Core.Bool.{Bool, true, false}

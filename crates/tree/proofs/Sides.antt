@@ -1,4 +1,4 @@
--- Which side of a slot is searched for its x.
+-- Which side of a slot is searched for its x: that where x lies. It assumes what the search gave there.
 use Prim.Native.Nat.{ℕ}
 use mathlib.Core.Path.{_≡_}
 use mathlib.Core.Bool.{Bool, true, false, not}

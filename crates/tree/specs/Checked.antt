@@ -11,8 +11,8 @@ use Rattle.pools.specs.Cells.{rootOf, pairAt, leftAt, rightAt, treeAt}
 use Rattle.pools.specs.Test.{slotFine, fine, below, rootFine}
 use Rattle.tree.specs.declared.Checked.{Checked}
 use Rattle.tree.specs.declared.Checked.the-variants.{Counted, Faulty}
-use Rattle.tree.specs.declared.Place.{Place}
-use Rattle.tree.specs.declared.Place.the-variants.{Empty, Leaf, Fork, Bad}
+use Rattle.tree.specs.declared.Son.{Son}
+use Rattle.tree.specs.declared.Son.the-variants.{Empty, Leaf, Fork, Bad}
 
 -- so many slots where all is fine, or faulty
 abbrev pub counted : Bool → ℕ → Checked
@@ -30,9 +30,9 @@ fromSlot c k s at = counted (below c k s at) (size (treeAt c k (leftAt c s)) + s
 unfoldable pub fromRoot : List ℕ → Checked
 fromRoot c = counted (rootFine c) (size (treeAt c allLevels (rootOf c)))
 
--- what stands at a son's place, where k levels are left: nothing, a slot that passes its own tests, without sons or with, or a fault
-pub data Stands (c : List ℕ) (k : ℕ) (p : Pair) (s : ℕ) (at : Stripe) : Place → Type 0 where
-  empty : s ≡ 0 → Stands c k p s at Empty
-  leaf : (s ≡ 0 → ⊥) → (k ≡ 0 → ⊥) → slotFine c s at ≡ true → beats p (pairAt c s) ≡ true → leftAt c s ≡ 0 → rightAt c s ≡ 0 → Stands c k p s at Leaf
-  branch : (s ≡ 0 → ⊥) → (k ≡ 0 → ⊥) → slotFine c s at ≡ true → beats p (pairAt c s) ≡ true → Stands c k p s at Fork
-  bad : fine c k p s at ≡ false → Stands c k p s at Bad
+-- what a son is, where k levels are left: no slot, a slot that passes its own tests, without sons or with, or a fault
+pub data SonIs (c : List ℕ) (k : ℕ) (p : Pair) (s : ℕ) (at : Stripe) : Son → Type 0 where
+  empty : s ≡ 0 → SonIs c k p s at Empty
+  leaf : (s ≡ 0 → ⊥) → (k ≡ 0 → ⊥) → slotFine c s at ≡ true → beats p (pairAt c s) ≡ true → leftAt c s ≡ 0 → rightAt c s ≡ 0 → SonIs c k p s at Leaf
+  branch : (s ≡ 0 → ⊥) → (k ≡ 0 → ⊥) → slotFine c s at ≡ true → beats p (pairAt c s) ≡ true → SonIs c k p s at Fork
+  bad : fine c k p s at ≡ false → SonIs c k p s at Bad

@@ -7,9 +7,9 @@ ghost use Prim.Native.Nat.{_≤_};
 ghost use Rattle.pools.specs.Cells.{Fits, treeAt};
 ghost use Rattle.kinds.specs.Shape.{stripeOf};
 ghost use Rattle.pools.specs.Sound.{Pool};
-ghost use Rattle.kinds.specs.Stripe.{Low};
+ghost use Rattle.kinds.specs.Stripe.{Low, lowLevels};
 ghost use Rattle.pools.specs.Test.{alone, slotFine};
-ghost use Rattle.tree.specs.Checked.{fromLink, fromSlot, fromRoot, Stands};
+ghost use Rattle.tree.specs.Checked.{fromLink, fromSlot, fromRoot, SonIs};
 ghost use Rattle.halving.specs.Sought.{Sought};
 
 // The slots from a place down, or that one is faulty.
@@ -18,8 +18,8 @@ pub enum Checked {
     Faulty,
 }
 
-// What stands at a son's place.
-pub enum Place {
+// What a son is found to be: no slot, one without sons, one with sons, or a fault.
+pub enum Son {
     Empty,
     Leaf,
     Fork,
@@ -49,34 +49,34 @@ fn slot_fine(pool: &[u32], slot: u32, at: Stripe) -> bool
     at.holds(p.x)
 }
 
-// What stands at a son's place, below a slot with the pair p and with so many levels left.
-fn place_of(pool: &[u32], levels: u32, p: Pair, son: u32, at: Stripe) -> Place
-    ensures { λ r. ⌜ Stands (now (pool .entry)) levels p son (stripeOf at) r ⌝ }
+// A son by its own tests, below a slot with the pair p and with so many levels left.
+fn look_at_son(pool: &[u32], levels: u32, p: Pair, son: u32, at: Stripe) -> Son
+    ensures { λ r. ⌜ SonIs (now (pool .entry)) levels p son (stripeOf at) r ⌝ }
 {
     if son == 0 {
-        return Place::Empty;
+        return Son::Empty;
     }
     if levels == 0 {
-        return Place::Bad;
+        return Son::Bad;
     }
     if !slot_fine(pool, son, at) {
-        return Place::Bad;
+        return Son::Bad;
     }
     if !p.beats(cells::pair(pool, son)) {
-        return Place::Bad;
+        return Son::Bad;
     }
     if cells::left(pool, son) != 0 {
-        return Place::Fork;
+        return Son::Fork;
     }
     if cells::right(pool, son) != 0 {
-        return Place::Fork;
+        return Son::Fork;
     }
-    Place::Leaf
+    Son::Leaf
 }
 
 // From a slot down whose own tests have passed, with so many levels below it.
 fn check_slot(pool: &[u32], levels: u32, slot: u32, at: Stripe) -> Checked
-    requires { ⌜ Fits (now pool) slot × (levels ≤ 32) × Low (stripeOf at) ⌝ }
+    requires { ⌜ Fits (now pool) slot × (levels ≤ lowLevels) × Low (stripeOf at) ⌝ }
     ensures { λ r. ⌜ r ≡ fromSlot (now (pool .entry)) levels slot (stripeOf at) ⌝ }
 {
     let p = cells::pair(pool, slot);
@@ -96,15 +96,15 @@ fn check_slot(pool: &[u32], levels: u32, slot: u32, at: Stripe) -> Checked
 
 // From a son's place down, with so many levels left.
 fn check_son(pool: &[u32], levels: u32, p: Pair, son: u32, at: Stripe) -> Checked
-    requires { ⌜ (levels ≤ 32) × Low (stripeOf at) ⌝ }
+    requires { ⌜ (levels ≤ lowLevels) × Low (stripeOf at) ⌝ }
     ensures { λ r. ⌜ r ≡ fromLink (now (pool .entry)) levels p son (stripeOf at) ⌝ }
 {
-    let place = place_of(pool, levels, p, son, at);
-    match place {
-        Place::Empty => Checked::Counted(0),
-        Place::Leaf => Checked::Counted(1),
-        Place::Fork => check_slot(pool, levels - 1, son, at),
-        Place::Bad => Checked::Faulty,
+    let what = look_at_son(pool, levels, p, son, at);
+    match what {
+        Son::Empty => Checked::Counted(0),
+        Son::Leaf => Checked::Counted(1),
+        Son::Fork => check_slot(pool, levels - 1, son, at),
+        Son::Bad => Checked::Faulty,
     }
 }
 

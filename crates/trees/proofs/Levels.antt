@@ -3,7 +3,7 @@ use Prim.Native.Nat.{ℕ, zero, suc, _+_, _^_, _≤_}
 use native.Mathlib.Omega.{arith}
 use native.Mathlib.Nat.{two-pow-succ}
 use Rattle.kinds.specs.declared.Pair.{Pair}
-use Rattle.kinds.specs.Stripe.{Stripe, In, rootStripe, leftPart, rightPart, allLevels}
+use Rattle.kinds.specs.Stripe.{Stripe, In, rootStripe, leftPart, rightPart, lowLevels, allLevels}
 use Rattle.trees.specs.Tree.{Tree, none, fork, All, Under, Well, Within}
 
 module _ {A : Type 0} (key : A → Pair) where
@@ -28,4 +28,4 @@ module _ {A : Type 0} (key : A → Pair) where
 
   -- law: the root's tree has no slot below level 32
   pub root-levels : (t : Tree A) → Well key rootStripe t → Within allLevels t
-  root-levels t w = levels rootStripe 32 t w (omega arith)
+  root-levels t w = levels rootStripe lowLevels t w (omega arith)

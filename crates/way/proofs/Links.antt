@@ -1,4 +1,4 @@
--- The cell of a link, and the four cells of a slot.
+-- The cell of a link, and the four cells of a slot. That a link's cell is one of the pool's assumes that the slot's are.
 use Prim.Native.Nat.{ℕ, _+_, _*_, _-_, _/_, _≤_, _<_}
 use mathlib.Core.Path.{_≡_, refl, sym, ap, _∙_}
 use mathlib.Core.Logic.{_≢_}

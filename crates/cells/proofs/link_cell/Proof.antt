@@ -1,4 +1,4 @@
--- The test picks the cell.
+-- The test picks the cell. Nothing is assumed.
 use Rattle.pools.specs.Cells.{linkCell}
 use borrow.Author.Needs.{needs}
 use Rattle.cells.proofs.link_cell.Statement.{statement}

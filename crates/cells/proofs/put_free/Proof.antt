@@ -1,4 +1,4 @@
--- The two stores, one after the other.
+-- The two stores, one after the other. It assumes that the slot's cells are there.
 use mathlib.Core.Path.{_∙_}
 use borrow.Author.Needs.{needs}
 use Rattle.cells.proofs.put_free.Statement.{statement}

@@ -1,4 +1,4 @@
--- Each store keeps the length.
+-- Each store keeps the length. It assumes that the header's cells are there.
 use native.Mathlib.Omega.{arith}
 use lib.ListN.{length-set}
 use borrow.Author.Needs.{needs}

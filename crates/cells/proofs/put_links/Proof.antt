@@ -1,4 +1,4 @@
--- The first store keeps the length.
+-- The first store keeps the length. It assumes that the slot's cells are there.
 use native.Mathlib.Omega.{arith}
 use lib.ListN.{length-set}
 use borrow.Author.Needs.{needs}

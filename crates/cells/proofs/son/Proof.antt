@@ -1,4 +1,4 @@
--- The test picks the link.
+-- The test picks the link. It assumes that the slot's cells are there.
 use Rattle.pools.specs.Cells.{sonAt}
 use borrow.Author.Needs.{needs}
 use Rattle.cells.proofs.son.Statement.{statement}

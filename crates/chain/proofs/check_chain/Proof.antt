@@ -1,4 +1,4 @@
--- The invariant: the rest of the chain is as fine as the whole.
+-- The invariant: the rest of the chain is as fine as the whole. Nothing is assumed; the slots that are left fall.
 use mathlib.Core.Path.{_≡_, refl, ap, _∙_}
 use Rattle.pools.specs.Test.{chainFine}
 use Rattle.chain.specs.Judged.{verdict}

@@ -1,4 +1,4 @@
--- Each way out is one law.
+-- Each way out is one law of FreeChain.antt: another count, too many, or as the chain is. It assumes that the length is a pool's.
 use Rattle.chain.proofs.FreeChain.{other-count, too-many, the-rest}
 use borrow.Author.Needs.{needs}
 use Rattle.chain.proofs.check_rest.Statement.{statement}

@@ -1,4 +1,4 @@
--- Each way out is one law.
+-- Each way out is one law of FreeChain.antt, on the test that decides. Nothing is assumed.
 use Rattle.chain.proofs.FreeChain.{no-slot, too-far, some-x, some-y, the-mark}
 use borrow.Author.Needs.{needs}
 use Rattle.chain.proofs.free_fine.Statement.{statement}

@@ -1,4 +1,4 @@
--- The pair goes down from the root, and then the count moves.
+-- The pair goes down from the root, and then the count moves. It assumes a sound pool with a free slot, where x is new.
 use mathlib.Core.Path.{_∙_}
 use native.Mathlib.Omega.{arith}
 use Rattle.down.proofs.Entering.{root-going, entered}

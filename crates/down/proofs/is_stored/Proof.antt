@@ -1,4 +1,4 @@
--- A slot is met exactly where x is stored.
+-- A slot is met exactly where x is stored. It assumes a sound pool.
 use Rattle.way.proofs.Ways.{place-there, stored-met}
 use borrow.Author.Needs.{needs}
 use Rattle.down.proofs.is_stored.Statement.{statement}

@@ -1,4 +1,4 @@
--- The test picks the pair that stays.
+-- The test picks the pair that stays. It assumes that the slot's cells are there.
 use Rattle.down.proofs.Carrying.{settle-swap, settle-keep}
 use borrow.Author.Needs.{needs}
 use Rattle.down.proofs.settle.Statement.{statement}

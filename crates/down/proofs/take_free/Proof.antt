@@ -1,4 +1,4 @@
--- The stores, one after the other.
+-- The stores, one after the other. It assumes that there is a free slot, and a cell for the link to it.
 use mathlib.Core.Path.{_∙_}
 use lib.ListN.{length-set}
 use Rattle.down.proofs.Taking.{took}

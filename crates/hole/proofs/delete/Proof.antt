@@ -1,4 +1,5 @@
--- Each way out is one law of Deletion.antt, about what the search met: the place is empty, holds another y, or holds the pair.
+-- Each way out is one law of Deletion.antt, about what the search met: the place is empty, holds another y, or holds the pair. It assumes
+-- a sound pool.
 use Rattle.way.proofs.Ways.{place-there, slot-fits}
 use Rattle.hole.proofs.Deletion.{ends-missing, hole-there, ends-other, some-counted, ends-done}
 use borrow.Author.Needs.{needs}

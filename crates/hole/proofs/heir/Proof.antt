@@ -1,4 +1,5 @@
--- Each way out is one law of Heirs.antt: no son, the right one alone, the left one alone, or both and the better.
+-- Each way out is one law of Heirs.antt: no son, the right one alone, the left one alone, or both and the better. It assumes that the cells
+-- of the slot and of its sons are there.
 use Rattle.hole.proofs.Heirs.{neither, only-right, only-left, both-sons}
 use borrow.Author.Needs.{needs}
 use Rattle.hole.proofs.heir.Statement.{statement}

@@ -1,4 +1,4 @@
--- The heir's pair moves up.
+-- The heir's pair moves up. It assumes that the cells of both slots are there, and that of the link.
 use Rattle.hole.specs.Hole.{promoted}
 use borrow.Author.Needs.{needs}
 use Rattle.hole.proofs.promote.Statement.{statement}

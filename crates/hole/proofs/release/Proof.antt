@@ -1,4 +1,4 @@
--- A slot is given up.
+-- A slot is given up, by one store after the other. It assumes that its cells are there, and that of the link.
 use mathlib.Core.Path.{_∙_}
 use native.Mathlib.Omega.{arith}
 use lib.ListN.{length-set}

@@ -1,4 +1,5 @@
--- A slot answers for itself or by its sons; a son that is asked has a level less.
+-- A slot answers for itself or by its sons; a son that is asked has a level less. It assumes that the links lead to the trees that are read,
+-- and that the visits fit 32 bits.
 use Prim.Native.Nat.{ℕ, _+_, _*_, _<_}
 use native.Mathlib.Omega.{arith}
 use Rattle.questions.proofs.Places.{there, one-more}

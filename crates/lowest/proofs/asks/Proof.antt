@@ -1,4 +1,4 @@
--- Each way out is one test.
+-- Each way out is one test. Nothing is assumed.
 use borrow.Author.Tests.{eq-eqb, ne-eqb}
 use Rattle.lowest.specs.Sons.{asks}
 use Rattle.lowest.proofs.asks.Statement.{statement}

@@ -1,4 +1,4 @@
--- Each way out is one law.
+-- Each way out is one law of YWalk.antt. It assumes that the cells of what was found are there.
 use Rattle.lowest.proofs.YWalk.{lower-second, lower-first, second-lower, first-stays}
 use Rattle.lowest.proofs.lower.Statement.{statement}
 use Rattle.lowest.proofs.lower.Tie as tie

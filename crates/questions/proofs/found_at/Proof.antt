@@ -1,4 +1,4 @@
--- Each way out is one law.
+-- Each way out is one law of Finding.antt. It assumes that the slot's cells are there, if there is a slot.
 use mathlib.Core.Path.{sym, ap, _∙_}
 use Rattle.kinds.specs.declared.Finding.the-variants.{Found}
 use Rattle.questions.proofs.Finding.{found-none, found-some}

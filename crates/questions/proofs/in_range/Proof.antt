@@ -1,4 +1,4 @@
--- Each way out is one test.
+-- Each way out is one test. Nothing is assumed.
 use borrow.Author.Tests.{lt-leb, le-leb}
 use Rattle.questions.proofs.in_range.Statement.{statement}
 use Rattle.questions.proofs.in_range.Tie as tie

@@ -1,4 +1,4 @@
--- The verdict, or none.
+-- The answer ends with the verdict. Nothing is assumed.
 use Rattle.sound.proofs.Judged.{check-answers}
 use borrow.Author.Needs.{needs}
 use Rattle.sound.proofs.check.Statement.{statement}

@@ -1,4 +1,4 @@
--- Each way out is one law.
+-- Each way out is one law of Lengths.antt. Nothing is assumed.
 use Rattle.sound.proofs.Lengths.{odd, short, long}
 use borrow.Author.Needs.{needs}
 use Rattle.sound.proofs.is_pool.Statement.{statement}

@@ -1,4 +1,4 @@
--- The length decides; a fresh pool is written, or nothing.
+-- The length decides; a fresh pool is written, or nothing. Nothing is assumed.
 use mathlib.Core.Path.{refl, sym, ap, _∙_}
 use mathlib.Core.Bool.{not}
 use mathlib.Core.List.{[], _∷_}

@@ -1,4 +1,4 @@
--- The mark, the tree and the rest, in the code's order.
+-- The mark, the tree and the rest, in the code's order. It assumes that the length is a pool's.
 use Rattle.sound.proofs.Whole.{other-mark, bad-tree, rest-decides}
 use borrow.Author.Needs.{needs}
 use Rattle.sound.proofs.soundness.Statement.{statement}

@@ -1,4 +1,4 @@
--- The two tests, in 01's order.
+-- The two tests, in 01's order. Nothing is assumed.
 use mathlib.Core.Path.{sym, _∙_}
 use Rattle.pools.proofs.Decided.{pool-true}
 use Rattle.sound.proofs.Judged.{length-right, length-wrong}

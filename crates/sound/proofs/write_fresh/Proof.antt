@@ -1,4 +1,4 @@
--- The invariant: what is still to be chained, done, gives what was to be chained at first.
+-- The invariant: what is still to be chained, done, gives what was to be chained at first. It assumes that the length is a pool's.
 use Prim.Native.Nat.{suc, _+_, _*_, _-_, _≤_}
 use mathlib.Core.Path.{_≡_, _∙_}
 use native.Mathlib.Omega.{arith}

@@ -1,4 +1,5 @@
--- A part is answered into, or the whole after it was written; the pool stays sound.
+-- A part is answered into, or the whole after it was written; the pool stays sound. It assumes a sound pool, and that what is held lies
+-- within the output.
 use native.Mathlib.Omega.{arith}
 use Rattle.lines.proofs.Answering.{told-within}
 use Rattle.taps.proofs.Parts.{part-within}

@@ -1,4 +1,5 @@
--- The invariant: the pool is sound, no slice changes its length, and the two places lie within theirs.
+-- The invariant: the pool is sound, no slice changes its length, and what is answered and what is held lie within their slices. It assumes
+-- a sound pool; each turn answers a line.
 use Prim.Native.Nat.{ℕ, _-_, _≤_}
 use mathlib.Core.Path.{_≡_, refl, _∙_}
 use mathlib.Core.List.{List}

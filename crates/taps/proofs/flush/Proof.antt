@@ -1,4 +1,4 @@
--- The part is as long as it says.
+-- The part is as long as it says. It assumes that it lies within the output.
 use mathlib.Core.Path.{sym}
 use lib.Seq.{length-take-le}
 use borrow.Author.Needs.{needs}

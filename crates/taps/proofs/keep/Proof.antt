@@ -1,4 +1,4 @@
--- The invariant: the bytes kept lie within those read.
+-- The invariant: the bytes kept lie within those read. It assumes that those lie within the input.
 use Prim.Native.Nat.{_+_, _-_, _≤_}
 use mathlib.Core.Path.{_≡_, refl}
 use native.Mathlib.Omega.{arith}

@@ -1,4 +1,4 @@
--- Set up leaves a sound pool.
+-- Set up leaves a sound pool, whatever the cells held.
 use Rattle.taps.proofs.Started.{starts-sound}
 use borrow.Author.Needs.{needs}
 use Rattle.taps.proofs.main.Statement.{statement}

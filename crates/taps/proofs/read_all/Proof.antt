@@ -1,4 +1,5 @@
--- The invariant: the pool is sound, no slice changes its length, and the kept bytes lie within the input.
+-- The invariant: the pool is sound, no slice changes its length, and the kept bytes lie within the input. It assumes a sound pool; the reads
+-- that are left fall.
 use mathlib.Core.Path.{_≡_, refl, _∙_}
 use mathlib.Core.List.{List}
 use Prim.Native.Nat.{ℕ, _≤_}

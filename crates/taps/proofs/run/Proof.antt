@@ -1,4 +1,4 @@
--- The part is as long as it says.
+-- The part is as long as it says, since the kept bytes lie within the input. It assumes a sound pool.
 use mathlib.Core.Path.{sym}
 use lib.Seq.{length-take-le}
 use borrow.Author.Needs.{needs}

@@ -1,4 +1,5 @@
--- A slot tests its sons' places, and a place that holds a slot with sons goes on there with a level less.
+-- A slot tests its sons, and a son that has sons goes on there with a level less. It assumes that the slot's cells are there, and a stripe
+-- that ends where the root's does or before.
 use Prim.Native.Nat.{ℕ, _+_, _*_, _<_}
 use native.Mathlib.Omega.{arith}
 use Rattle.kinds.proofs.Stripes.{low-left, low-right}
@@ -18,7 +19,7 @@ use Rattle.cells.proofs.right.Reads as right-reads
 use Rattle.kinds.proofs.Stripe.left.Reads as Stripe-left-reads
 use Rattle.kinds.proofs.Stripe.right.Reads as Stripe-right-reads
 use Rattle.tree.proofs.again.Reads as again-reads
-use Rattle.tree.proofs.place_of.Reads as place-of-reads
+use Rattle.tree.proofs.look_at_son.Reads as look-at-son-reads
 use Rattle.tree.proofs.+check_slot+check_son.{statement}
 use Rattle.tree.proofs.+check_slot+check_son.Tie.{close}
 
@@ -47,7 +48,7 @@ abbrev check-slot-calls : ℕ → check-slot-lts.Claims
 check-slot-calls t = (pair-reads.Asked, pair-reads.Learnt, left-reads.Asked, left-reads.Learnt, right-reads.Asked, right-reads.Learnt, Stripe-left-reads.Asked, Stripe-left-reads.Learnt, check-son-below t, check-son.Post, Stripe-right-reads.Asked, Stripe-right-reads.Learnt, again-reads.Asked, again-reads.Learnt)
 
 abbrev check-son-calls : ℕ → check-son-lts.Claims
-check-son-calls t = (place-of-reads.Asked, place-of-reads.Learnt, check-slot-below t, check-slot.Post)
+check-son-calls t = (look-at-son-reads.Asked, look-at-son-reads.Learnt, check-slot-below t, check-slot.Post)
 
 check-slot-pair-requires : (t : ℕ) → check-slot-lts.Need-pair-requires (check-slot-calls t) (check-slot-at t) check-slot.Post
 check-slot-pair-requires t c κs = c .before .pre .1 .0
@@ -135,34 +136,34 @@ check-slot-returns-4 t c =
     both-counted _ _ _ _ _ _ _ (at-pair .pair .ensures) (at-left .left .ensures) (at-right .right .ensures) _ _ (at-left2 .left2 .ensures) (at-check-son .check-son .ensures) _ (at-a .a .given .1) _ _ (at-right2 .right2 .ensures) (at-check-son2 .check-son2 .ensures) _ (at-b .b .given .1) _ (at-again .again .ensures) (c .if1 .left)
 
 check-son-sub-check-slot : (t : ℕ) → check-son-lts.Need-sub-check-slot (check-son-calls t) (check-son-at t) check-son.Post
-check-son-sub-check-slot t c = let d = son-fork _ _ _ _ _ (c .before .before .place-of .ensures) (c .enum-told3 .given .1) .deep in omega arith
+check-son-sub-check-slot t c = let d = son-fork _ _ _ _ _ (c .before .before .look-at-son .ensures) (c .enum-told3 .given .1) .deep in omega arith
 
 check-son-check-slot-requires : (t : ℕ) → check-son-lts.Need-check-slot-requires (check-son-calls t) (check-son-at t) check-son.Post
 check-son-check-slot-requires t c κs =
-    let b = son-fork _ _ _ _ _ (c .before .before .place-of .ensures) (c .enum-told3 .given .1) in
+    let b = son-fork _ _ _ _ _ (c .before .before .look-at-son .ensures) (c .enum-told3 .given .1) in
     let d = b .deep in
     (omega (arith, c .before .before .before .before .pre .0), (fork-fits _ _ _ _ _ b, omega (arith, c .before .before .before .before .pre .1 .0), c .before .before .before .before .pre .1 .1))
 
 check-son-returns : (t : ℕ) → check-son-lts.Need-returns (check-son-calls t) (check-son-at t) check-son.Post
 check-son-returns t c =
-    let at-place-of = c .before .before in
-    son-empty _ _ _ _ _ (at-place-of .place-of .ensures) (c .enum-told .given .1)
+    let at-look-at-son = c .before .before in
+    son-empty _ _ _ _ _ (at-look-at-son .look-at-son .ensures) (c .enum-told .given .1)
 
 check-son-returns-2 : (t : ℕ) → check-son-lts.Need-returns-2 (check-son-calls t) (check-son-at t) check-son.Post
 check-son-returns-2 t c =
-    let at-place-of = c .before .before in
-    son-leaf _ _ _ _ _ (at-place-of .place-of .ensures) (c .enum-told2 .given .1)
+    let at-look-at-son = c .before .before in
+    son-leaf _ _ _ _ _ (at-look-at-son .look-at-son .ensures) (c .enum-told2 .given .1)
 
 check-son-returns-3 : (t : ℕ) → check-son-lts.Need-returns-3 (check-son-calls t) (check-son-at t) check-son.Post
 check-son-returns-3 t c =
     let at-enum-told3 = c .before in
-    let at-place-of = at-enum-told3 .before .before in
-    fork-there _ _ _ _ _ _ (son-fork _ _ _ _ _ (at-place-of .place-of .ensures) (at-enum-told3 .enum-told3 .given .1)) (c .check-slot .ensures)
+    let at-look-at-son = at-enum-told3 .before .before in
+    fork-there _ _ _ _ _ _ (son-fork _ _ _ _ _ (at-look-at-son .look-at-son .ensures) (at-enum-told3 .enum-told3 .given .1)) (c .check-slot .ensures)
 
 check-son-returns-4 : (t : ℕ) → check-son-lts.Need-returns-4 (check-son-calls t) (check-son-at t) check-son.Post
 check-son-returns-4 t c =
-    let at-place-of = c .before .before in
-    son-bad _ _ _ _ _ (at-place-of .place-of .ensures) (c .enum-told4 .given .1)
+    let at-look-at-son = c .before .before in
+    son-bad _ _ _ _ _ (at-look-at-son .look-at-son .ensures) (c .enum-told4 .given .1)
 
 pub +check-slot+check-son-spec : {M : Type 1} → statement M
 +check-slot+check-son-spec = close μ-check-slot μ-check-son (λ t. check-slot-lts.spec (check-slot-calls t) (check-slot-at t) check-slot.Post
@@ -185,7 +186,7 @@ pub +check-slot+check-son-spec : {M : Type 1} → statement M
     (check-slot-add-t15 t)
     (check-slot-returns-4 t))
     λ t. check-son-lts.spec
-    (place-of-reads.Asked, place-of-reads.Learnt, check-slot-below t, check-slot.Post)
+    (look-at-son-reads.Asked, look-at-son-reads.Learnt, check-slot-below t, check-slot.Post)
     (check-son-at t)
     check-son.Post
     (λ c κs. search needs)

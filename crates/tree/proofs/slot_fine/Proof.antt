@@ -1,5 +1,5 @@
--- Each way out is one law.
-use Rattle.tree.proofs.Places.{too-far, in-stripe}
+-- Each way out is one law of Sons.antt. It assumes a number that is not 0.
+use Rattle.tree.proofs.Sons.{too-far, in-stripe}
 use borrow.Author.Needs.{needs}
 use Rattle.tree.proofs.slot_fine.Statement.{statement}
 use Rattle.tree.proofs.slot_fine.Tie as tie

@@ -1,0 +1,1 @@
+-- No laws of its own: those of the walk are in nearest.

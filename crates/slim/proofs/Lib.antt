@@ -1,0 +1,2 @@
+-- The laws on a slim stripe and its parts.
+pub mod Slims

@@ -1,0 +1,2 @@
+-- The laws on the closer of two pairs.
+pub mod Closer
