@@ -1,4 +1,4 @@
--- A listing from the root of a sound pool, into the whole of a lent slice.
+-- A listing from the root, into the whole of a lent slice. Assumed is a sound pool, and what the walk at the root does.
 use Prim.Native.Nat.{ℕ, _-_, _≤_, _<_}
 use mathlib.Core.Path.{_≡_, refl, sym, _∙_}
 use mathlib.Core.Bool.{true, false}
@@ -16,6 +16,7 @@ use Rattle.listing.specs.declared.Listing.{Listing}
 use Rattle.questions.specs.Walking.{Asked}
 use Rattle.listing.specs.Listing.{Lists, Lent}
 use Rattle.questions.proofs.Top.{root-asked}
+use Rattle.listing.proofs.ListWalk.{list-none}
 use Rattle.listing.proofs.Filling.{Fills, fills, put-written, stopped, goes-on, next-place}
 
 module _ (c : List ℕ) (S : Sound c) (s : ℕ) (at : Stripe) (es : s ≡ rootOf c) (ea : at ≡ rootStripe) where
@@ -77,3 +78,9 @@ module _ (c : List ℕ) (S : Sound c) (s : ℕ) (at : Stripe) (es : s ≡ rootOf
 
       pub list-whole : Lent o W o′ (record { count = n; more = false; visits = v })
       list-whole = lent _ all-listed (sym (goes-on o 0 W o′ n (omega arith) filled-here (made .put) (omega arith))) refl
+
+  -- law: without a root nothing is listed
+  pub list-empty : (x0 x1 y1 : ℕ) (o : List ℕ) → s ≡ 0
+      → Lent o (listing (limits x0 x1 y1) rootStripe (treeAt c allLevels (rootOf c)) (roomOf o)) o (record { count = 0; more = false; visits = 0 })
+  list-empty x0 x1 y1 o z =
+      list-whole x0 x1 y1 o (roomOf o) refl o 0 0 (list-none c allLevels s at (limits x0 x1 y1) o 0 0 (roomOf o - 0) true z) (omega arith)

@@ -142,12 +142,18 @@ pub fn list(pool: &[u32], out: &mut [u32], x0: u32, x1: u32, y1: u32) -> Listing
     let mut visits: u32 = 0;
     let room = room_of(out);
     let root = cells::root(pool);
-    let count = list_son(
+    if root == 0 {
+        return Listing {
+            count: 0,
+            more: false,
+            visits,
+        };
+    }
+    let count = list_at(
         pool,
         out,
-        Stripe::LEVELS + 1,
+        Stripe::LEVELS,
         root,
-        true,
         Stripe::root(),
         x0,
         x1,
