@@ -20,7 +20,7 @@ use Rattle.walks.specs.Walks.{smallestX, largestX, smallestY, listing}
 use Rattle.pools.proofs.Decided.{pool-true}
 use Rattle.kinds.proofs.Tests.{on}
 use Rattle.sound.specs.Promises.{lengthLine, setUp}
-use Rattle.sound.proofs.Lengths.{odd, short, long}
+use Rattle.fresh.proofs.Lengths.{odd, short, long}
 use Rattle.sound.proofs.Meaning as meaning
 use Rattle.plain.specs.Books.{plainInsert, plainDelete, plainSmallestX, plainLargestX, plainSmallestY, plainListing}
 use Rattle.plain.specs.Strips.{plainOpen, plainClose, plainFirst, plainCovers}

@@ -1,6 +1,4 @@
 -- The laws that the proofs of the functions cite, and what the two calls mean.
-pub mod Lengths
-pub mod Chaining
 pub mod Whole
 pub mod Meaning
 pub mod Lines

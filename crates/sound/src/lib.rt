@@ -3,49 +3,19 @@ use kinds::Answer;
 use kinds::codes;
 use tree::Checked;
 ghost use mathlib.Core.Path.{_≡_};
-ghost use Prim.Native.Nat.{_+_, _*_, _-_, _<_};
-ghost use Rattle.pools.specs.Cells.{slotsOf, fresh};
+ghost use Prim.Native.Nat.{_-_};
 ghost use Rattle.kinds.specs.Promise.{Changes, Answers};
 ghost use Rattle.pools.specs.Sound.{Pool};
-ghost use Rattle.pools.specs.Test.{isPool, isSound};
+ghost use Rattle.pools.specs.Test.{isSound};
 ghost use Rattle.chain.specs.Judged.{verdict};
 ghost use Rattle.sound.specs.Promises.{verdictOf, setUp, check};
-
-// Whether a pool has the length that its slots and header take.
-fn is_pool(pool: &[u32]) -> bool
-    ensures { λ r. ⌜ r ≡ isPool (now (pool .entry)) ⌝ }
-{
-    let len = pool.len();
-    if len % cells::PER_SLOT != 0 {
-        return false;
-    }
-    if len < 2 * cells::PER_SLOT {
-        return false;
-    }
-    len <= (cells::MOST + 1) * cells::PER_SLOT
-}
-
-// Every slot is chained as free, in ascending order.
-fn write_fresh(pool: &mut [u32])
-    requires { ⌜ Pool (now pool) ⌝ }
-    ensures { λ _. ⌜ now (pool .exit) ≡ fresh (slotsOf (now (pool .entry))) ⌝ }
-{
-    let n = (pool.len() / cells::PER_SLOT - 1) as u32;
-    cells::put_header(pool, 0, 1, 0);
-    let mut slot: u32 = 1;
-    while slot < n {
-        cells::put_free(pool, slot, slot + 1);
-        slot += 1;
-    }
-    cells::put_free(pool, slot, 0);
-}
 
 // Lays out a pool with nothing stored, whatever its cells held.
 pub fn set_up(pool: &mut [u32]) -> Answer
     ensures { λ r. ⌜ Changes (setUp (now (pool .entry))) (now (pool .entry)) r (now (pool .exit)) ⌝ }
 {
-    if is_pool(pool) {
-        write_fresh(pool);
+    if fresh::is_pool(pool) {
+        fresh::write_fresh(pool);
         return Answer::finished();
     }
     Answer::refused(codes::LENGTH)
@@ -70,7 +40,7 @@ fn soundness(pool: &[u32]) -> u32
 pub fn verdict(pool: &[u32]) -> u32
     ensures { λ r. ⌜ r ≡ verdictOf (now (pool .entry)) ⌝ }
 {
-    if is_pool(pool) {
+    if fresh::is_pool(pool) {
         return soundness(pool);
     }
     codes::LENGTH

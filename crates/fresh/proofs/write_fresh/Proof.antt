@@ -6,9 +6,9 @@ use borrow.Author.Needs.{needs}
 use lib.ListN.{length}
 use Rattle.pools.specs.Cells.{perSlot}
 use Rattle.pools.proofs.Fresh.{chained}
-use Rattle.sound.proofs.Chaining.{turn, last, whole}
-use Rattle.sound.proofs.write_fresh.Statement.{statement}
-use Rattle.sound.proofs.write_fresh.Tie as tie
+use Rattle.fresh.proofs.Chaining.{turn, last, whole}
+use Rattle.fresh.proofs.write_fresh.Statement.{statement}
+use Rattle.fresh.proofs.write_fresh.Tie as tie
 
 abbrev Inv-loop : tie.InvT-loop
 Inv-loop pool₀ n slot₀ pool slot =

@@ -1,8 +1,8 @@
 -- Each way out is one law of Lengths.antt. Nothing is assumed.
-use Rattle.sound.proofs.Lengths.{odd, short, long}
+use Rattle.fresh.proofs.Lengths.{odd, short, long}
 use borrow.Author.Needs.{needs}
-use Rattle.sound.proofs.is_pool.Statement.{statement}
-use Rattle.sound.proofs.is_pool.Tie as tie
+use Rattle.fresh.proofs.is_pool.Statement.{statement}
+use Rattle.fresh.proofs.is_pool.Tie as tie
 
 returns : tie.Need-returns
 returns c = odd _ (c .if1 .taken)
