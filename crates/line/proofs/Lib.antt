@@ -1,4 +1,3 @@
 -- The laws on digits, words and lines that the proofs of the reading cite.
-pub mod Digits
 pub mod Words
 pub mod Lines

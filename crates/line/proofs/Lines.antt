@@ -10,7 +10,8 @@ use Rattle.kinds.proofs.Tests.{on}
 use Rattle.line.specs.declared.Asked.the-variants.{Malformed}
 use Rattle.line.specs.declared.Numbers.{Numbers}
 use Rattle.line.specs.declared.Numbers.the-variants.{Other, One, Two, Three}
-use Rattle.line.specs.Line.{space, led, words, value, allNumbers, meant, byWords, askedBy}
+use Rattle.line.specs.Line.{space, led, words, allNumbers, meant, byWords, askedBy}
+use Rattle.decimal.specs.Decimal.{value}
 use Rattle.line.specs.Reading.{counted, numbersAfter, ofLetter}
 
 -- law: a line over 63 bytes

@@ -10,10 +10,12 @@ use lib.Seq.{take-length, take-all}
 use borrow.Author.Tests.{eqb-true, eqb-false}
 use Rattle.bytes.specs.Bytes.{indexOf, indexAfter, slice}
 use Rattle.kinds.proofs.Tests.{on}
-use Rattle.line.specs.declared.Number.the-variants.{Is, Not}
+use Rattle.decimal.specs.declared.Number.the-variants.{Is, Not}
 use Rattle.line.specs.declared.Numbers.the-variants.{Other}
-use Rattle.line.specs.Line.{space, led, words, value, isNumber, allNumbers}
-use Rattle.line.specs.Reading.{wordLength, numberIf, numberOf, counted, numbersAfter}
+use Rattle.line.specs.Line.{space, led, words, allNumbers}
+use Rattle.decimal.specs.Decimal.{value, isNumber}
+use Rattle.line.specs.Reading.{wordLength, counted, numbersAfter}
+use Rattle.decimal.specs.Reading.{numberIf, numberOf}
 
 -- law: a word is no longer than the text
 pub word-within : (t : List ℕ) → wordLength t ≤ length t

@@ -1,9 +1,10 @@
--- What a line of the script asks: a letter, and decimal numbers after single spaces.
-use Prim.Native.Nat.{ℕ, _+_, _*_, _-_}
-use mathlib.Core.Bool.{Bool, true, cond, not, _&&_}
+-- What a line of the script asks: a letter, and decimal numbers (decimal/specs/Decimal.antt) after single spaces.
+use Prim.Native.Nat.{ℕ}
+use mathlib.Core.Bool.{Bool, true, cond, _&&_}
 use mathlib.Core.List.{List, [], _∷_, map}
-use lib.Dec.{eqb, leb, ltb}
-use lib.ListN.{length, getD}
+use lib.Dec.{eqb, ltb}
+use lib.ListN.{length}
+use Rattle.decimal.specs.Decimal.{value, isNumber}
 use Rattle.line.specs.declared.Asked.{Asked}
 use Rattle.line.specs.declared.Asked.the-variants.{Open, Close, First, Last, Covers, Malformed}
 
@@ -20,32 +21,6 @@ led b (w ∷ ws) = (b ∷ w) ∷ ws
 unfoldable pub words : List ℕ → List (List ℕ)
 words [] = [] ∷ []
 words (b ∷ bs) = let rest = words bs in cond (eqb b space) ([] ∷ rest) (led b rest)
-
--- one of the bytes of 0 to 9
-abbrev pub isDigit : ℕ → Bool
-isDigit b = leb 48 b && ltb b 58
-
--- digits alone
-unfoldable pub allDigits : List ℕ → Bool
-allDigits [] = true
-allDigits (b ∷ bs) = isDigit b && allDigits bs
-
--- what digits are worth behind the number n
-unfoldable pub valueFrom : ℕ → List ℕ → ℕ
-valueFrom n [] = n
-valueFrom n (b ∷ bs) = valueFrom (n * 10 + (b - 48)) bs
-
--- what digits are worth
-abbrev pub value : List ℕ → ℕ
-value w = valueFrom 0 w
-
--- a 0 with more behind it
-abbrev pub leadingZero : List ℕ → Bool
-leadingZero w = leb 2 (length w) && eqb (getD w 0 0) 48
-
--- digits alone, at least one, no leading zero except 0 itself, 0 to 4294967295
-unfoldable pub isNumber : List ℕ → Bool
-isNumber w = leb 1 (length w) && not (leadingZero w) && allDigits w && leb (value w) 4294967295
 
 -- every word is a number
 abbrev pub allNumbers : List (List ℕ) → Bool

@@ -1,40 +1,18 @@
 -- How the code reads a line: word by word, the numbers counted.
-use Prim.Native.Nat.{ℕ, _+_, _*_, _-_}
-use mathlib.Core.Bool.{Bool, cond, _&&_}
+use Prim.Native.Nat.{ℕ, _+_}
+use mathlib.Core.Bool.{cond}
 use mathlib.Core.List.{List, [], _∷_, _++_, map}
-use lib.Dec.{leb, ltb}
 use Rattle.bytes.specs.Bytes.{indexOf}
 use Rattle.line.specs.declared.Asked.{Asked}
 use Rattle.line.specs.declared.Asked.the-variants.{Malformed}
-use Rattle.line.specs.declared.Number.{Number}
-use Rattle.line.specs.declared.Number.the-variants.{Is, Not}
 use Rattle.line.specs.declared.Numbers.{Numbers}
 use Rattle.line.specs.declared.Numbers.the-variants.{Other, One, Two, Three}
-use Rattle.line.specs.Line.{space, isDigit, allDigits, value, isNumber, allNumbers, meant}
+use Rattle.line.specs.Line.{space, allNumbers, meant}
+use Rattle.decimal.specs.Decimal.{value}
 
 -- the bytes before the first space
 unfoldable pub wordLength : List ℕ → ℕ
 wordLength t = indexOf space t
-
--- the number n if the test holds
-abbrev pub numberIf : Bool → ℕ → Number
-numberIf ok n = cond ok (Is n) Not
-
--- digits alone, worth no more than 4294967295
-unfoldable pub digitsOf : List ℕ → Number
-digitsOf w = numberIf (allDigits w && leb (value w) 4294967295) (value w)
-
--- digits behind the number n: the first byte that is none ends it, and so does the first number that is too large
-unfoldable pub digitsFrom : ℕ → List ℕ → Number
-digitsFrom n [] = Is n
-digitsFrom n (b ∷ bs) =
-    let m = n * 10 + (b - 48) in
-    let rest = digitsFrom m bs in
-    cond (isDigit b) (cond (ltb 4294967295 m) Not rest) Not
-
--- the number that a word is, if it is one
-unfoldable pub numberOf : List ℕ → Number
-numberOf w = numberIf (isNumber w) (value w)
 
 -- one to three numbers
 abbrev pub counted : List ℕ → Numbers

@@ -1,21 +1,18 @@
 // Reading a line of the script: a letter, and decimal numbers after single spaces.
 use bytes::scan;
+use decimal::Number;
+use decimal::number_in;
 ghost use Prim.Native.Nat.{_≤_};
 ghost use mathlib.Core.Path.{_≡_};
 ghost use mathlib.Core.List.{[], _∷_};
 ghost use lib.ListN.{length};
-ghost use Rattle.line.specs.Line.{isDigit, leadingZero, askedBy, words};
-ghost use Rattle.line.specs.Reading.{wordLength, digitsOf, numberOf, numbersAfter, ofLetter};
+ghost use Rattle.line.specs.Line.{askedBy, words};
+ghost use Rattle.line.specs.Reading.{wordLength, numbersAfter, ofLetter};
 
 // The most bytes of a line before its newline.
 const LONGEST: usize = 63;
 
 const SPACE: u8 = 32;
-
-const ZERO: u8 = 48;
-
-// The largest number.
-const LARGEST: u64 = 4294967295;
 
 // What a line asks.
 pub enum Asked {
@@ -27,76 +24,12 @@ pub enum Asked {
     Malformed,
 }
 
-// Whether a word is a number, and which.
-enum Number {
-    Is(u32),
-    Not,
-}
-
 // The numbers behind the letter, if there are one to three and nothing else.
 enum Numbers {
     Other,
     One(u32),
     Two(u32, u32),
     Three(u32, u32, u32),
-}
-
-fn is_digit(b: u8) -> bool
-    ensures { λ r. ⌜ r ≡ isDigit b ⌝ }
-{
-    if b < ZERO {
-        return false;
-    }
-    b < 58
-}
-
-// Whether a word of several bytes starts with 0.
-fn leading_zero(word: &[u8]) -> bool
-    ensures { λ r. ⌜ r ≡ leadingZero (now (word .entry)) ⌝ }
-{
-    if word.len() < 2 {
-        return false;
-    }
-    word[0] == ZERO
-}
-
-// In 64 bits a number that is too large is seen before it could overflow.
-fn wide(b: u8) -> u64
-    ensures { λ r. ⌜ r ≡ b ⌝ }
-{
-    b as u64
-}
-
-// The number that digits alone give.
-fn digits_in(word: &[u8]) -> Number
-    ensures { λ r. ⌜ r ≡ digitsOf (now (word .entry)) ⌝ }
-{
-    let mut i = 0;
-    let mut sum: u64 = 0;
-    while i < word.len() {
-        let b = word[i];
-        if !is_digit(b) {
-            return Number::Not;
-        }
-        sum = sum * 10 + wide(b - ZERO);
-        if LARGEST < sum {
-            return Number::Not;
-        }
-        i += 1;
-    }
-    Number::Is(sum as u32)
-}
-
-fn number_in(word: &[u8]) -> Number
-    ensures { λ r. ⌜ r ≡ numberOf (now (word .entry)) ⌝ }
-{
-    if word.len() == 0 {
-        return Number::Not;
-    }
-    if leading_zero(word) {
-        return Number::Not;
-    }
-    digits_in(word)
 }
 
 // The bytes before the first space.

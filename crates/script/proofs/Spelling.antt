@@ -10,8 +10,9 @@ use borrow.Author.Tests.{eqb-true, eqb-false, ne-eqb, le-ltb}
 use Rattle.kinds.proofs.Tests.{on, both, and-true}
 use Rattle.line.specs.declared.Asked.{Asked}
 use Rattle.line.specs.declared.Asked.the-variants.{Open, Close, First, Last, Covers, Malformed}
-use Rattle.line.specs.Line.{space, led, words, isDigit, allDigits, value, isNumber, allNumbers, meant, byWords, askedBy}
-use Rattle.line.proofs.Digits.{digit-range}
+use Rattle.line.specs.Line.{space, led, words, allNumbers, meant, byWords, askedBy}
+use Rattle.decimal.specs.Decimal.{isDigit, allDigits, value, isNumber}
+use Rattle.decimal.proofs.Digits.{digit-range}
 use Rattle.line.proofs.Words.{some-word}
 use Rattle.text.specs.Text.{decimal}
 use Rattle.text.proofs.Printing.{item-few, append-none}

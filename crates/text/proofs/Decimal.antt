@@ -9,8 +9,8 @@ use lib.Dec.{leb, eqb}
 use lib.ListN.{length, getD, length-append}
 use borrow.Author.Tests.{le-leb, lt-ltb, ne-eqb, eqb-true, eqb-false, leb-true, not-true}
 use Rattle.kinds.proofs.Tests.{on, clash, both, all-four, and-true, and-false}
-use Rattle.line.specs.Line.{isDigit, allDigits, valueFrom, value, leadingZero, isNumber}
-use Rattle.line.proofs.Digits.{most, digit-range, value-grows}
+use Rattle.decimal.specs.Decimal.{isDigit, allDigits, valueFrom, value, leadingZero, isNumber}
+use Rattle.decimal.proofs.Digits.{most, digit-range, value-grows}
 use Rattle.line.proofs.Words.{append-one}
 use Rattle.text.specs.Text.{glyph, front, decimal}
 use Rattle.text.proofs.Printing.{front-zero, front-step, append-none}

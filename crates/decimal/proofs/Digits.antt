@@ -9,9 +9,9 @@ use lib.ListN.{length, getD, drop, drop-of-length-le}
 use lib.Seq.{drop-cons}
 use borrow.Author.Tests.{ltb-true, ltb-false, leb-true, lt-ltb, le-ltb, le-leb, lt-leb}
 use Rattle.kinds.proofs.Tests.{on, both, and-false}
-use Rattle.line.specs.declared.Number.the-variants.{Is, Not}
-use Rattle.line.specs.Line.{isDigit, allDigits, valueFrom, leadingZero, isNumber}
-use Rattle.line.specs.Reading.{numberIf, digitsOf, digitsFrom, numberOf}
+use Rattle.decimal.specs.declared.Number.the-variants.{Is, Not}
+use Rattle.decimal.specs.Decimal.{isDigit, allDigits, valueFrom, leadingZero, isNumber}
+use Rattle.decimal.specs.Reading.{numberIf, digitsOf, digitsFrom, numberOf}
 
 -- the largest number
 abbrev pub most : ℕ

@@ -1,7 +1,7 @@
 -- Each test of the code is one of the definition's.
 use borrow.Author.Tests.{le-leb, lt-leb}
-use Rattle.line.proofs.is_digit.Statement.{statement}
-use Rattle.line.proofs.is_digit.Tie as tie
+use Rattle.decimal.proofs.is_digit.Statement.{statement}
+use Rattle.decimal.proofs.is_digit.Tie as tie
 
 returns : tie.Need-returns
 returns c = simp (lt-leb _ _ (c .if1 .taken))

@@ -1,8 +1,8 @@
 -- Each test of the code is one of the definition's.
 use borrow.Author.Tests.{le-leb, lt-leb}
 use borrow.Author.Needs.{needs}
-use Rattle.line.proofs.leading_zero.Statement.{statement}
-use Rattle.line.proofs.leading_zero.Tie as tie
+use Rattle.decimal.proofs.leading_zero.Statement.{statement}
+use Rattle.decimal.proofs.leading_zero.Tie as tie
 
 returns : tie.Need-returns
 returns c = simp (lt-leb _ _ (c .if1 .taken))

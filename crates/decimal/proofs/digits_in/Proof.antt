@@ -4,10 +4,10 @@ use mathlib.Core.Path.{refl, sym, _∙_}
 use native.Mathlib.Omega.{arith}
 use lib.ListN.{length}
 use borrow.Author.Tests.{not-true, not-false}
-use Rattle.line.proofs.Digits.{Reads, first-byte, no-byte, no-digit, too-large, next-byte, digit-range, digit-more}
+use Rattle.decimal.proofs.Digits.{Reads, first-byte, no-byte, no-digit, too-large, next-byte, digit-range, digit-more}
 use borrow.Author.Needs.{needs}
-use Rattle.line.proofs.digits_in.Statement.{statement}
-use Rattle.line.proofs.digits_in.Tie as tie
+use Rattle.decimal.proofs.digits_in.Statement.{statement}
+use Rattle.decimal.proofs.digits_in.Tie as tie
 
 abbrev Inv-loop : tie.InvT-loop
 Inv-loop word i₀ sum₀ i sum = Reads word i sum

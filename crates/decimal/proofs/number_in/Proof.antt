@@ -1,9 +1,9 @@
 -- The two tests come before the digits.
 use mathlib.Core.Path.{sym, _∙_}
-use Rattle.line.proofs.Digits.{empty-word, zero-led, not-zero-led}
+use Rattle.decimal.proofs.Digits.{empty-word, zero-led, not-zero-led}
 use borrow.Author.Needs.{needs}
-use Rattle.line.proofs.number_in.Statement.{statement}
-use Rattle.line.proofs.number_in.Tie as tie
+use Rattle.decimal.proofs.number_in.Statement.{statement}
+use Rattle.decimal.proofs.number_in.Tie as tie
 
 returns : tie.Need-returns
 returns c = empty-word _ (c .if1 .taken)

@@ -1,0 +1,2 @@
+-- What digits are worth.
+pub mod Digits

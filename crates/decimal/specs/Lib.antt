@@ -1,0 +1,3 @@
+-- A word as a number (Decimal), and how the code reads it (Reading).
+pub mod Decimal
+pub mod Reading
