@@ -4,7 +4,7 @@ ghost use Prim.Native.Nat.{_≤_};
 ghost use lib.Dec.{ltb};
 ghost use Rattle.kinds.specs.Answer.{five, finished, refused, ended, answered, listedBy};
 ghost use Rattle.kinds.specs.Pairs.{beats};
-ghost use Rattle.kinds.specs.Stripe.{Low, rootStripe, middle, leftPart, rightPart, partOf, stripeAt, holds};
+ghost use Rattle.kinds.specs.Stripe.{Low, lowLevels, rootStripe, middle, leftPart, rightPart, partOf, stripeAt, holds};
 ghost use Rattle.kinds.specs.Shape.{stripeOf, Keyed};
 
 pub mod codes;
@@ -112,7 +112,7 @@ impl Stripe {
 
     // Whether x lies below the middle of the stripe that it lies in, with so many levels below it: its bit at that level is 0.
     pub fn is_left(x: u32, levels: u32) -> bool
-        requires { ⌜ (1 ≤ levels) × (levels ≤ 32) ⌝ }
+        requires { ⌜ (1 ≤ levels) × (levels ≤ lowLevels) ⌝ }
         ensures { λ r. ⌜ r ≡ ltb x (middle (stripeAt levels x)) ⌝ }
     {
         (x >> (levels - 1)) % 2 == 0

@@ -15,6 +15,6 @@ pub fn save(pool: &[u32], bytes: &mut [u8]) -> Answer
         return Answer::refused(codes::SHORT);
     }
     pages::put_head(bytes, count);
-    pages::put_pairs(pool, bytes);
+    rows::put_pairs(pool, bytes);
     Answer::finished()
 }

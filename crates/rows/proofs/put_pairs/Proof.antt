@@ -1,10 +1,10 @@
 -- The invariant: what is still to be written, written, gives what was to be written at first.
 use mathlib.Core.Path.{refl}
-use Rattle.pages.proofs.Next.{toWrite, Turn, nothing-left, next, one-less, next-last, first-turn, all-written, room-here, next-turn, last-written}
+use Rattle.rows.proofs.Next.{toWrite, Turn, nothing-left, next, one-less, next-last, first-turn, all-written, room-here, next-turn, last-written}
 use borrow.Author.Needs.{needs}
 use lib.ListN.{length}
-use Rattle.pages.proofs.put_pairs.Statement.{statement}
-use Rattle.pages.proofs.put_pairs.Tie as tie
+use Rattle.rows.proofs.put_pairs.Statement.{statement}
+use Rattle.rows.proofs.put_pairs.Tie as tie
 
 abbrev Inv-loop : tie.InvT-loop
 Inv-loop pool bytes₀ at₀ x0₀ bytes at x0 = Turn pool bytes₀ bytes at x0
