@@ -1,89 +1,168 @@
-// The desk: one lent slice for all that a run keeps, so that each function lends one thing. First come the cells that are lent as a
-// pool, then the seed, the counts, the plain list and copies of the pool. Beyond the end there is 0 to read and nothing to write.
+// The desk: one array for all that the program keeps, in parts; and calls with pseudo-random numbers, the same on every machine.
+pub use std::num::wrapping_add_u32 as add;
+pub use std::num::wrapping_sub_u32 as sub;
 
-// The next pseudo-random number is made of these two cells, the lower half first.
-pub const SEED: usize = 16388;
+pub type Desk = [u32; 262144];
+// The cells that are lent as a pool.
+pub const POOL: u32 = 0;
+// The pool's cells before a call.
+pub const KEPT: u32 = 16400;
+// The pool's cells as a set up is to leave them.
+pub const FRESH: u32 = 32800;
+// The plain list, x and y of each row.
+pub const ROWS: u32 = 49200;
+// For each row of the list the last turn in which it was shown.
+pub const SHOWN: u32 = 51300;
+// The counts, as they are printed: of the kinds from 1 on, of the codes from 18 on, and the others from 30 on.
+pub const COUNTS: u32 = 52400;
+// How many cells are lent as a pool, and how many rows the list has.
+pub const SIZES: u32 = 52500;
+// The pool's cells at the start of each run.
+pub const STARTS: u32 = 52600;
+// The kinds of call are numbers in the order of their counts, or letters from a on; a change's and its reversal's differ in the last bit.
+pub const SET_UP: u32 = 1;
+// The book is written.
+pub const SAVE: u32 = 3;
+// A pair is stored.
+pub const INSERT: u32 = 4;
+// A pair is removed.
+pub const DELETE: u32 = 5;
+// A strip is stored.
+pub const OPEN: u32 = 6;
+// A strip is removed. The questions follow.
+pub const CLOSE: u32 = 7;
+// The first of the four listings.
+pub const LISTING: u32 = 14;
 
-// The counts, in the order in which they are printed: the calls of each kind, and the answers of each code.
-pub const OF_KIND: usize = 16390;
-
-pub const OF_CODE: usize = 16407;
-
-// Times that a pool was full, and that it was emptied.
-pub const FILLED: usize = 16419;
-
-pub const EMPTIED: usize = 16420;
-
-// Pools with a damaged cell, and lengths that are no pool's.
-pub const DAMAGED: usize = 16421;
-
-pub const LENGTHS: usize = 16422;
-
-// Runs of changes that were taken back, and the changes in them.
-pub const RUNS: usize = 16423;
-
-pub const TAKEN_BACK: usize = 16424;
-
-pub const DIFFERENCES: usize = 16425;
-
-// Answers with a number that is no code; each is a difference too.
-pub const OF_NO_CODE: usize = 16426;
-
-// The number of pairs in the plain list, and then its rows, x and y of each.
-pub const PAIRS: usize = 16440;
-
-pub const ROWS: usize = 16441;
-
-// The changes of a run.
-pub const LOG: usize = 18500;
-
-// The pool's cells as they were before a run, and before a call.
-pub const START: usize = 18700;
-
-pub const KEPT: usize = 22800;
-
-pub fn wide(n: u32) -> usize {
-    n as usize
+// A call, with up to three numbers in the order of its parameters.
+pub struct Call {
+    pub kind: u32,
+    pub a: u32,
+    pub b: u32,
+    pub c: u32,
 }
 
-pub fn at(desk: &[u32], i: usize) -> u32 {
-    if i < desk.len() { desk[i] } else { 0 }
+pub fn at(desk: &Desk, part: u32, i: u32) -> u32 {
+    desk[((part as u64 + i as u64) % 262144) as usize]
 }
 
-pub fn put(desk: &mut [u32], i: usize, v: u32) {
-    if i < desk.len() {
-        desk[i] = v;
+pub fn put(desk: &mut Desk, part: u32, i: u32, value: u32) {
+    desk[((part as u64 + i as u64) % 262144) as usize] = value;
+}
+
+pub fn len(desk: &Desk) -> u32 {
+    at(desk, SIZES, 0)
+}
+
+pub fn rows(desk: &Desk) -> u32 {
+    at(desk, SIZES, 1)
+}
+
+pub fn pick(is: bool, a: u32, b: u32) -> u32 {
+    if is { a } else { b }
+}
+
+pub fn count(desk: &mut Desk, i: u32) {
+    let n = at(desk, COUNTS, i);
+    put(desk, COUNTS, i, add(n, 1));
+}
+
+// Copies n cells of one part to another, and says whether they stood there already.
+pub fn copy(desk: &mut Desk, from: u32, to: u32, n: u32) -> bool {
+    let mut is_same = true;
+    for i in 0..n {
+        let value = at(desk, from, i);
+        is_same = is_same & (at(desk, to, i) == value);
+        put(desk, to, i, value);
+    }
+    is_same
+}
+
+pub fn x_at(desk: &Desk, row: u32) -> u32 {
+    at(desk, ROWS, row << 1)
+}
+
+pub fn y_at(desk: &Desk, row: u32) -> u32 {
+    at(desk, ROWS, row << 1 | 1)
+}
+
+pub fn is_full(desk: &Desk) -> bool {
+    len(desk) / 4 <= add(rows(desk), 1)
+}
+
+pub fn new_call(kind: u32, a: u32, b: u32, c: u32) -> Call {
+    Call { kind, a, b, c }
+}
+
+fn mixed(n: u32) -> u32 {
+    let m = n as u64 * 2654435769 % 4294967296;
+    ((m + m / 32768) % 4294967296) as u32
+}
+
+// The k-th number of a turn, of up to 16.
+pub fn draw(turn: u32, k: u32) -> u32 {
+    mixed(mixed(turn << 4 | k))
+}
+
+pub fn below(n: u32, drawn: u32) -> u32 {
+    if n == 0 { 0 } else { drawn % n }
+}
+
+// The number before, the number itself or the next one.
+pub fn beside(n: u32, drawn: u32) -> u32 {
+    sub(add(n, drawn % 3), 1)
+}
+
+// A letter of `value`, of 32 for each sort of number: any x, any y, any slot, a stored x, y, end, number, the last slot.
+fn way_of(kind: u32, i: u32, drawn: u32) -> u8 {
+    let ways = b"ppppqqqqxxxbbbbssaaaaaaaaaaaaaaa\
+        0000mmmmttttttttyyyywwwwaaaaaaaa\
+        0looawweeeeeeeesssssssssssssssss\
+        xxxxxxxxxxxxxxxxxxxxxxxxxxxxxxxa\
+        yyyyyyyyyyyyyyyyyyyy0mttsswwwaaa\
+        eeeeeeeeeeeeeeeeeeeeeeeeeeeeeesw\
+        rrrrrrrrrrrrrrrrrrrrrrrrrrrrrrsw\
+        llllllllllllllllllllllllllllllll";
+    let sorts = b".000a000b000c000d010e340f222g456h001i001j000k270l220m220n004o270p220q220";
+    let sort = sorts[((kind << 2 | i) % 72) as usize] % 8;
+    ways[sort as usize * 32 + (drawn % 32) as usize]
+}
+
+// A number drawn so; x and y are those of a stored pair.
+fn value(way: u8, d: u32, x: u32, y: u32) -> u32 {
+    match way {
+        b'0' => 0,
+        b'm' => u32::MAX,
+        b'l' => 65535,
+        b'o' => 65536,
+        b'p' => beside(1u32 << (d % 32), d / 32),
+        b'q' => beside(u32::MAX << (d % 32), d / 32),
+        b'x' => x,
+        b'b' => beside(x, d),
+        b'y' => y,
+        b'e' => x / 65536,
+        b'r' => x % 65536,
+        b't' => d % 4,
+        b's' => d % 40,
+        b'w' => d % 65536,
+        _ => d,
     }
 }
 
-pub fn add(desk: &mut [u32], i: usize, n: u32) {
-    let sum = std::num::wrapping_add_u32(at(desk, i), n);
-    put(desk, i, sum);
+// The i-th number of a call. A removal's are of one stored pair.
+fn number(desk: &Desk, kind: u32, i: u32, turn: u32) -> u32 {
+    let k = pick((kind == DELETE) | (kind == CLOSE), 8, 8 | i);
+    let row = below(rows(desk), draw(turn, k));
+    let way = way_of(kind, i, draw(turn, i));
+    value(way, draw(turn, 4 | i), x_at(desk, row), y_at(desk, row))
 }
 
-// The pool's cells.
-pub fn pool<'a>(desk: &'a [u32], len: usize) -> &'a [u32] {
-    if len <= desk.len() {
-        &desk[0..len]
-    } else {
-        desk
-    }
-}
-
-// Copies the pool's cells to an index on.
-pub fn keep(desk: &mut [u32], len: usize, to: usize) {
-    for i in 0..len {
-        let v = at(desk, i);
-        put(desk, std::num::wrapping_add_usize(to, i), v);
-    }
-}
-
-// Whether each of the pool's cells is as it was kept.
-pub fn is_same(desk: &[u32], len: usize, kept: usize) -> bool {
-    for i in 0..len {
-        if at(desk, i) != at(desk, std::num::wrapping_add_usize(kept, i)) {
-            return false;
-        }
-    }
-    true
+// A call of a kind; two limits are in their order but for once in 12.
+pub fn call_of(desk: &Desk, kind: u32, turn: u32) -> Call {
+    let a = number(desk, kind, 1, turn);
+    let b = number(desk, kind, 2, turn);
+    let c = number(desk, kind, 3, turn);
+    let is_limit = (kind == OPEN) | (CLOSE < kind) & (b != 65535);
+    let is_turned = is_limit & (b < a) & (draw(turn, 4) % 12 != 0);
+    new_call(kind, pick(is_turned, b, a), pick(is_turned, a, b), c)
 }

@@ -1,167 +1,152 @@
-// Many pseudo-random calls on pools small and full, held to a plain list that is scanned from top to bottom: every answer, and
-// the cells and bytes that a call leaves. Prints what was done, and the first difference if there is one.
-mod back;
-mod call;
-mod calls;
-mod chance;
-mod damage;
+// Many pseudo-random calls, held to a plain list that is scanned from top to bottom: every answer, and the cells and bytes that it leaves.
 mod desk;
 mod plain;
-mod saved;
 mod step;
-mod tally;
 
-use call::Call;
+use desk::*;
+use step::*;
 
-// How many pools are compared, and the phases of each.
-const POOLS: u32 = 8;
-
-const PHASES: u32 = 12;
-
-// More turns than it takes to fill or to empty a pool.
-const TURNS: u32 = 8192;
-
-// Calls of every kind but set up; the pool grows and shrinks in turn.
-fn mixed(desk: &mut [u32], len: usize, turns: u32) {
-    for i in 0..turns {
-        let kind = chance::kind(desk, i / 64 % 2 == 0);
-        step::any(desk, len, 0, kind);
-    }
+// What a fresh pool of n cells holds in one.
+fn fresh(n: u32, i: u32) -> u32 {
+    let link = pick(i / 4 + 1 < n / 4, i / 4 + 1, 0);
+    let of_slot = pick(i % 4 == 2, u32::MAX, pick(i % 4 == 3, link, 0));
+    pick(i < 4, pick(i % 2 == 0, 1, 0), of_slot)
 }
 
-// Opens or inserts, unless the pool is full.
-fn store_one(desk: &mut [u32], len: usize) {
-    if step::slots_of(len) <= plain::count(desk) {
+// The pool's cells are filled with anything at all.
+fn litter(desk: &mut Desk, n: u32) {
+    for i in 0..n {
+        put(desk, POOL, i, draw(i, 0));
+        put(desk, FRESH, i, fresh(n, i));
+    }
+    put(desk, SIZES, 0, n);
+}
+
+// A cell to damage; the mark where the pool might stay sound, at x of the root, and at y of a slot that no son would beat.
+fn cell_for(desk: &Desk, drawn: u32) -> u32 {
+    let cell = below(pick(drawn % 4 == 0, 4, len(desk)), drawn / 4);
+    let left = at(desk, cell, 1);
+    let son = pick(left == 0, at(desk, cell, 2), left);
+    let is_beaten = (son == u32::MAX) | (son != 0) & (at(desk, son << 2, 1) != u32::MAX);
+    let is_root = (cell % 4 == 0) & (cell / 4 == at(desk, POOL, 1));
+    let is_safe = is_root | (cell % 4 == 1) & !is_beaten;
+    pick((3 < cell) & is_safe, 0, cell)
+}
+
+// What is put there: an x in the other half of the root's stripe, the largest y, a link to the slot itself, or a bit turned over.
+fn damaged(old: u32, cell: u32, drawn: u32) -> u32 {
+    let turned = old ^ 1u32 << (drawn / 4 % 32);
+    let link = pick(drawn % 4 == 1, cell / 4, turned);
+    let y_or_link = pick(cell % 4 == 1, u32::MAX, link);
+    let of_slot = pick(cell % 4 == 0, old ^ 2147483648, y_or_link);
+    pick(cell < 4, turned, of_slot)
+}
+
+// Makes a call that is refused: by 1 for a length that is too small, too large or uneven, or, if it is no set up, by 2 for a damaged cell.
+fn refuse(desk: &mut Desk, code: u32, turn: u32) {
+    let drawn = draw(turn, 13);
+    let kind = add(below(sub(18, code), draw(turn, 14)), code);
+    let asked = call_of(desk, kind, turn);
+    let part = pick(code == 1, SIZES, POOL);
+    let cell = pick(code == 1, 0, cell_for(desk, drawn));
+    let old = at(desk, part, cell);
+    let uneven = below(old, drawn / 32) | drawn / 8 % 3 + 1;
+    let even = pick(drawn % 8 < 2, drawn % 8 * 4, 16388);
+    let len = pick(drawn % 8 < 3, even, uneven);
+    let value = pick(code == 1, len, damaged(old, cell, drawn));
+    put(desk, part, cell, value);
+    one(desk, asked, code, turn);
+    put(desk, part, cell, old);
+    count(desk, sub(34, code));
+}
+
+// A kind, of 32 by which the pool grows or shrinks for 64 turns; of the first eight until it is full in phases 1 to 5, or empty in 6 to 8.
+fn kind_at(desk: &Desk, turn: u32) -> u32 {
+    let kinds = b"ddddffffddddffeeeeggbchijklmnopq\
+        eeeeegggeeeeggdddfffbghijklmnopq";
+    let phase = turn % 8192 / 384;
+    let is_filling = (0 < phase) & (phase < 6);
+    let is_emptying = (5 < phase) & (phase < 9) & (rows(desk) != 0);
+    let row = pick(is_filling, 0, pick(is_emptying, 1, turn / 64 % 2));
+    let is_open = is_filling & !is_full(desk) | is_emptying;
+    let drawn = draw(turn, 0) % 32;
+    let i = row << 5 | pick(is_open, drawn % 8, drawn);
+    (kinds[(i % 64) as usize] % 32) as u32
+}
+
+// The call of a turn. Phases 0 and 9 begin with a way down all the levels, along the powers of 2 from an end of the root's stripe.
+fn call_at(desk: &Desk, turn: u32) -> Call {
+    let k = turn % 8192 % 384;
+    let phase = turn % 8192 / 384;
+    if (phase % 9 == 0) & (k < 33) {
+        let power = pick(k < 32, 1u32 << (k % 32), 0);
+        let x = pick(phase == 0, power, u32::MAX ^ power);
+        return new_call(INSERT, x, sub(64, k) % 33, 0);
+    }
+    call_of(desk, kind_at(desk, turn), turn)
+}
+
+// Turns, and then their changes are taken back, last first. Every 128 turns a run starts: taken back, each cell is as it was there.
+fn run(desk: &mut Desk, turn: u32, left: u32) {
+    if left == 0 {
         return;
     }
-    let kind = chance::storing_kind(desk);
-    step::any(desk, len, 0, kind);
-}
-
-fn fill(desk: &mut [u32], len: usize) {
-    for _ in 0..TURNS {
-        store_one(desk, len);
+    let n = len(desk);
+    let start = add(STARTS, turn % 8192 / 128 << 12);
+    if turn % 128 == 0 {
+        copy(desk, POOL, start, n);
     }
-    let is_full = plain::count(desk) == step::slots_of(len);
-    desk::add(desk, desk::FILLED, plain::one_if(is_full));
-}
-
-// Deletes the list's first pair, if there is one.
-fn delete_one(desk: &mut [u32], len: usize) {
-    if plain::count(desk) == 0 {
-        return;
+    if turn % 6 == 0 {
+        refuse(desk, turn / 6 % 2 + 1, turn);
     }
-    step::change(desk, len, 0, plain::first_deleted(desk));
-}
-
-fn empty(desk: &mut [u32], len: usize) {
-    for _ in 0..TURNS {
-        delete_one(desk, len);
+    let asked = call_at(desk, turn);
+    let back = new_call(asked.kind ^ 1, asked.a, asked.b, asked.c);
+    let is_done = one(desk, asked, 0, turn);
+    run(desk, add(turn, 1), left - 1);
+    if is_done {
+        one(desk, back, 0, turn);
+        count(desk, 35);
     }
-    let is_empty = plain::count(desk) == 0;
-    desk::add(desk, desk::EMPTIED, plain::one_if(is_empty));
-}
-
-// The powers of 2 from either end of the root's stripe, the larger above the smaller, and the end itself below all.
-fn deep_call(from: u32, k: u32) -> Call {
-    if k == 32 {
-        return Call::new(call::INSERT, from, 50, 0);
-    }
-    let p = chance::power(k);
-    let x = if from == 0 {
-        p
-    } else {
-        std::num::wrapping_sub_u32(from, p)
-    };
-    Call::new(call::INSERT, x, std::num::wrapping_sub_u32(40, k), 0)
-}
-
-// A way down all the levels, as deep as the pool has slots for.
-fn deep(desk: &mut [u32], len: usize, from: u32) {
-    for k in 0..33 {
-        step::change(desk, len, 0, deep_call(from, k));
+    if turn % 128 == 0 {
+        let is_back = copy(desk, POOL, start, n);
+        tell(desk, 34, is_back, turn);
     }
 }
 
-// The pool is set up over anything at all.
-fn litter(desk: &mut [u32], len: usize) {
-    for i in 0..len {
-        let value = chance::next(desk);
-        desk::put(desk, i, value);
-    }
-    step::any(desk, len, 0, call::SET_UP);
-}
-
-// Runs that are taken back, damaged pools and lengths that are no pool's.
-fn trials(desk: &mut [u32], len: usize, turns: u32) {
-    for _ in 0..turns {
-        back::run(desk, len);
-        damage::unsound(desk, len);
-        damage::cut(desk, len);
+// Pools of each length, and smaller ones again, are set up over anything and have 3,840 turns in ten phases; the longest has two turns.
+fn lives(desk: &mut Desk) {
+    let lens = [8, 12, 16, 24, 64, 260, 1024, 4096, 16384];
+    for i in 0..23 {
+        let k = pick(i < 9, i, i % 6);
+        let n = lens[(k % 9) as usize];
+        let turn = (i + 1) << 13;
+        litter(desk, n);
+        one(desk, new_call(SET_UP, 0, 0, 0), 0, turn);
+        let is_fresh = copy(desk, POOL, FRESH, n);
+        tell(desk, 0, is_fresh, turn);
+        run(desk, turn, pick(k == 8, 2, 3840));
     }
 }
 
-// A pool is set up, tried, filled and tried while it is full; then it is emptied and gets a deep tree, from either end.
-fn phase(desk: &mut [u32], len: usize, turns: u32, k: u32) {
-    match k {
-        0 => litter(desk, len),
-        2 | 4 => trials(desk, len, turns / 64),
-        3 => fill(desk, len),
-        6 | 9 => empty(desk, len),
-        7 => deep(desk, len, 0),
-        10 => deep(desk, len, 4294967295),
-        _ => mixed(desk, len, turns),
-    }
-}
-
-// The slots of the compared pools.
-fn slots_of(k: u32) -> u32 {
-    match k {
-        0 => 1,
-        1 => 2,
-        2 => 3,
-        3 => 5,
-        4 => 15,
-        5 => 64,
-        6 => 255,
-        _ => 1023,
-    }
-}
-
-// A call on a large pool takes longer, so it has fewer.
-fn turns_of(k: u32) -> u32 {
-    match k {
-        6 => 1024,
-        7 => 512,
-        _ => 2048,
-    }
-}
-
-fn pools(desk: &mut [u32]) {
-    for i in 0..POOLS * PHASES {
-        let k = i / PHASES;
-        phase(
-            desk,
-            4 * (slots_of(k) as usize) + 4,
-            turns_of(k),
-            i % PHASES,
-        );
-    }
-}
-
-// Set up and check with one slot more than the longest pool has, and with the longest pool's length.
-fn longest(desk: &mut [u32]) {
-    for i in 0..4 {
-        let more = plain::one_if(i < 2);
-        step::any(desk, 16384 + 4 * (more as usize), more, i % 2);
+// Each count behind its name.
+fn print(desk: &Desk, names: &[u8]) {
+    let mut n: u32 = 1;
+    for i in 0..names.len() {
+        if names[i] == b'\n' {
+            io::write_all(1, b": ");
+            io::print_decimal(1, at(desk, COUNTS, n) as u64);
+            n = add(n, 1);
+        }
+        io::write_all(1, &names[i..i + 1]);
     }
 }
 
 fn main() {
-    let mut desk = [0u32; 39200];
-    desk::put(&mut desk, desk::SEED, 3418323524);
-    desk::put(&mut desk, desk::SEED + 1, 20529293);
-    pools(&mut desk);
-    longest(&mut desk);
-    tally::print(&desk);
+    let mut desk = [0u32; 262144];
+    lives(&mut desk);
+    let names: &[u8] =
+        b"set up\ncheck\nsave\ninsert\ndelete\nopen\nclose\nsmallest x\nlargest x\nsmallest y\nfirst to end\nlast to end\nearliest start\nlisting\nlist covers\nlist meets\nlist contains\n\
+code 0\ncode 1\ncode 2\ncode 3\ncode 4\ncode 5\ncode 6\ncode 7\ncode 8\ncode 9\ncode 10\ncode 11\n\
+pools filled\npools emptied\npools damaged\nlengths that are no pool's\nruns taken back\nchanges taken back\ndifferences\n";
+    print(&desk, names);
 }

@@ -1,329 +1,109 @@
-// The plain list, in no order, and its scans from top to bottom.
-use crate::call;
-use crate::call::Call;
-use crate::call::Want;
-use crate::desk;
-ghost use Prim.Native.Nat.{_<_};
+// The plain list, by ascending x, and what a scan of it from top to bottom says that a call is to tell.
+use crate::desk::*;
+use kinds::Five;
 
-// The most rows that the list has.
-const MOST_ROWS: usize = 1023;
-
-// What the list holds best for a question so far.
-pub struct Best {
-    pub found: bool,
-    pub x: u32,
-    pub y: u32,
+// How many rows match, and the best of them.
+pub struct Found {
+    pub count: u32,
+    pub best: u32,
 }
 
-pub fn count(desk: &[u32]) -> u32 {
-    desk::at(desk, desk::PAIRS)
-}
-
-// The cell of a row's x; of the first row, for a row beyond all.
-fn row(i: usize) -> usize
-    ensures { λ r. ⌜ r < 20000 ⌝ }
-{
-    if i < MOST_ROWS {
-        desk::ROWS + 2 * i
-    } else {
-        desk::ROWS
-    }
-}
-
-pub fn x_at(desk: &[u32], i: usize) -> u32 {
-    desk::at(desk, row(i))
-}
-
-pub fn y_at(desk: &[u32], i: usize) -> u32 {
-    desk::at(desk, row(i) + 1)
-}
-
-// The deletion of the first row.
-pub fn first_deleted(desk: &[u32]) -> Call {
-    Call::new(call::DELETE, x_at(desk, 0), y_at(desk, 0), 0)
-}
-
-// The row of x, or the number of rows.
-pub fn find(desk: &[u32], x: u32) -> usize {
-    let rows = desk::wide(count(desk));
-    for i in 0..rows {
-        if x_at(desk, i) == x {
-            return i;
-        }
-    }
-    rows
-}
-
-// Whether exactly this pair is in the list.
-pub fn holds(desk: &[u32], x: u32, y: u32) -> bool {
-    let i = find(desk, x);
-    if i < desk::wide(count(desk)) {
-        return y_at(desk, i) == y;
-    }
-    false
-}
-
-// Writes a row, and how many there are.
-fn write_row(desk: &mut [u32], i: usize, x: u32, y: u32, rows: u32) {
-    let at = row(i);
-    desk::put(desk, at, x);
-    desk::put(desk, at + 1, y);
-    desk::put(desk, desk::PAIRS, rows);
-}
-
-// Whether code 9's line holds.
-fn no_strip(asked: Call) -> bool {
-    let kind = asked.kind;
-    let is_strip = (kind == call::OPEN) | (kind == call::CLOSE);
-    let has_one = (kind == call::FIRST_TO_END) | (kind == call::LIST_COVERS);
-    let has_two = (kind == call::LAST_TO_END)
-        | (kind == call::EARLIEST_START)
-        | (kind >= call::LIST_MEETS);
-    let of_a = (is_strip | has_one | has_two) & (65535 < asked.a);
-    let of_b = (is_strip | has_two) & (65535 < asked.b);
-    of_a | of_b | is_strip & ((65535 < asked.c) | (asked.b < asked.a))
-}
-
-// Whether code 3's line holds: a question between two limits has the second below the first.
-fn backwards(asked: Call) -> bool {
-    let kind = asked.kind;
-    (call::SMALLEST_X <= kind)
-        & (kind != call::FIRST_TO_END)
-        & (kind != call::LIST_COVERS)
-        & (asked.b < asked.a)
-}
-
-// The refusal by what the pool is and by the call's own numbers, or 0. `health` is 0, 1 or 2, as the pool was made.
-pub fn refusal(asked: Call, health: u32) -> u32 {
-    if health != 0 {
-        return health;
-    }
-    if no_strip(asked) {
-        return call::NO_STRIP;
-    }
-    if backwards(asked) {
-        return call::BACKWARDS;
-    }
-    call::DONE
-}
-
-// Whether a pair is one that a question asks for. Of a strip the end is x / 65,536, the number the rest, the start y.
+// Whether a pair is one that a question asks for, or stands above a change's. Of a strip the end is x / 65,536, the start y.
 pub fn matches(asked: Call, x: u32, y: u32) -> bool {
     let kind = asked.kind;
     let a = asked.a;
     let b = asked.b;
     let end = x / 65536;
     match kind {
-        call::SMALLEST_Y => (a <= x) & (x <= b),
-        call::FIRST_TO_END | call::LIST_COVERS => (y <= a) & (a <= end),
-        call::LAST_TO_END => (y <= a) & (a <= end) & (end <= b),
-        call::EARLIEST_START => (a <= end) & (end <= b),
-        call::LIST_MEETS => (y <= b) & (a <= end),
-        call::LIST_CONTAINS => (y <= a) & (b <= end),
+        INSERT | DELETE => x < a,
+        10 => (a <= x) & (x <= b),
+        11 | 12 | 15 => (y <= a) & (a <= end) & (end <= b),
+        13 => (a <= end) & (end <= b),
+        16 => (y <= b) & (a <= end),
+        17 => (y <= a) & (b <= end),
         _ => (a <= x) & (x <= b) & (y <= asked.c),
     }
 }
 
-// Whether of two strips the first ends before the second, or in the same slot under a lower number.
-fn ends_before(x: u32, other: u32) -> bool {
-    let end = x / 65536;
-    let other_end = other / 65536;
-    (end < other_end) | (end == other_end) & (x % 65536 < other % 65536)
+// Of the rows that match, the best is the last one for 9 and 12, the first one with the lowest y for 10 and 13, else the first one.
+pub fn scan(desk: &Desk, asked: Call) -> Found {
+    let kind = asked.kind;
+    let mut count: u32 = 0;
+    let mut best: u32 = 0;
+    for row in 0..rows(desk) {
+        let y = y_at(desk, row);
+        let is_match = matches(asked, x_at(desk, row), y);
+        let is_lower = ((kind == 10) | (kind == 13)) & (y < y_at(desk, best));
+        let is_best = (count == 0) | (kind == 9) | (kind == 12) | is_lower;
+        best = pick(is_match & is_best, row, best);
+        count = add(count, pick(is_match, 1, 0));
+    }
+    Found { count, best }
 }
 
-// Whether a pair that matches is better than the best so far.
-fn better(kind: u32, x: u32, y: u32, best: Best) -> bool {
+// A change of a strip as that of its pair.
+pub fn as_pair(asked: Call) -> Call {
+    if (asked.kind == OPEN) | (asked.kind == CLOSE) {
+        return new_call(asked.kind ^ 2, asked.b << 16 | asked.c, asked.a, 0);
+    }
+    asked
+}
+
+// The refusal by a call's own numbers: 9 for one over 65,535 or a strip that ends before it starts, 3 for limits out of order.
+fn refusal(asked: Call) -> u32 {
+    let kind = asked.kind;
+    let is_strip = (kind == OPEN) | (kind == CLOSE);
+    let is_of_slots = is_strip | (10 < kind) & (kind != LISTING);
+    let is_over = (65535 < asked.a) | (65535 < asked.b) | is_strip & (65535 < asked.c);
+    let backwards = pick(is_strip, 9, pick(CLOSE < kind, 3, 0));
+    let code = pick(asked.b < asked.a, backwards, 0);
+    pick(is_of_slots & is_over, 9, code)
+}
+
+// The code of a call, where n rows match or stand above the change's pair; `health` refuses it if that is not 0.
+pub fn code_of(desk: &Desk, asked: Call, health: u32, n: u32, is_short: bool) -> u32 {
+    let refused = pick(health == 0, refusal(asked), health);
+    let pair = as_pair(asked);
+    let kind = pick(refused == 0, pair.kind, 0);
+    let is_there = (n < rows(desk)) & (x_at(desk, n) == pair.a);
     match kind {
-        call::SMALLEST_X => x < best.x,
-        call::LARGEST_X => best.x < x,
-        call::SMALLEST_Y => (y < best.y) | (y == best.y) & (x < best.x),
-        call::FIRST_TO_END => ends_before(x, best.x),
-        call::LAST_TO_END => ends_before(best.x, x),
-        _ => (y < best.y) | (y == best.y) & ends_before(x, best.x),
+        SAVE => pick(is_short, 11, 0),
+        INSERT => pick(is_there, 4, pick(is_full(desk), 5, 0)),
+        DELETE => pick(is_there, pick(y_at(desk, n) == pair.b, 0, 7), 6),
+        8..=13 => pick(n == 0, 8, 0),
+        14..=17 => pick(is_short, 10, 0),
+        _ => refused,
     }
 }
 
-// The best so far, with one more pair seen.
-fn seen(asked: Call, best: Best, x: u32, y: u32) -> Best {
-    if matches(asked, x, y) & (!best.found | better(asked.kind, x, y, best)) {
-        return Best { found: true, x, y };
-    }
-    best
+// Whether an answer is right. A question that is not refused visits the root, if there is one, no slot twice, and keeps to its bound.
+pub fn agrees(desk: &Desk, got: Five, kind: u32, code: u32, row: u32, shown: u32) -> bool {
+    let is_question = (CLOSE < kind) & ((code == 0) | (code == 8) | (code == 10));
+    let is_found = is_question & (kind < LISTING) & (code == 0);
+    let x = pick(is_found, x_at(desk, row), 0);
+    let y = pick(is_found, y_at(desk, row), 0);
+    let bound = pick(is_question, add(shown << 1, 127), 0);
+    let most = pick(rows(desk) < bound, rows(desk), bound);
+    let is_bounded = (got.visits <= most) & ((got.visits == 0) == (most == 0));
+    let is_pair = (got.x == x) & (got.y == y);
+    (got.code == code) & is_pair & (got.count == shown) & is_bounded
 }
 
-fn best_of(desk: &[u32], asked: Call) -> Best {
-    let mut best = Best {
-        found: false,
-        x: 0,
-        y: 0,
-    };
-    let rows = desk::wide(count(desk));
-    for i in 0..rows {
-        best = seen(asked, best, x_at(desk, i), y_at(desk, i));
-    }
-    best
-}
-
-fn least_of(a: u32, b: u32) -> u32 {
-    if a < b { a } else { b }
-}
-
-// A question that no line refuses: it visits the root, if there is one, no slot twice, and keeps to the bound.
-fn visiting(code: u32, best: Best, listed: u32, stored: u32, bound: u32) -> Want {
-    Want {
-        code,
-        x: best.x,
-        y: best.y,
-        count: listed,
-        least: least_of(stored, 1),
-        most: least_of(stored, bound),
-    }
-}
-
-// What the check, or a question for one pair or strip, is to tell.
-pub fn answer(desk: &[u32], asked: Call, health: u32) -> Want {
-    let refused = refusal(asked, health);
-    if (refused != 0) | (asked.kind == call::CHECK) {
-        return call::bare(refused);
-    }
-    let best = best_of(desk, asked);
-    visiting(code_of(best.found), best, 0, count(desk), 127)
-}
-
-fn code_of(found: bool) -> u32 {
-    if found { call::DONE } else { call::NOTHING }
-}
-
-pub fn one_if(is: bool) -> u32 {
-    if is { 1 } else { 0 }
-}
-
-fn matching(desk: &[u32], asked: Call) -> u32 {
-    let mut n: u32 = 0;
-    let rows = desk::wide(count(desk));
-    for i in 0..rows {
-        n = std::num::wrapping_add_u32(n, one_if(matches(asked, x_at(desk, i), y_at(desk, i))));
-    }
-    n
-}
-
-fn listed(code: u32, n: u32, stored: u32) -> Want {
-    let none = Best {
-        found: false,
-        x: 0,
-        y: 0,
-    };
-    let twice = std::num::wrapping_add_u32(n, n);
-    visiting(
-        code,
-        none,
-        n,
-        stored,
-        std::num::wrapping_add_u32(twice, 127),
-    )
-}
-
-// What a listing with this room is to tell.
-pub fn listing(desk: &[u32], asked: Call, health: u32, room: u32) -> Want {
-    let refused = refusal(asked, health);
-    if refused != 0 {
-        return call::bare(refused);
-    }
-    let n = matching(desk, asked);
-    if room < n {
-        return listed(call::MORE, room, count(desk));
-    }
-    listed(call::DONE, n, count(desk))
-}
-
-// The x of a change's pair; a strip's end and number are in it.
-fn x_of(asked: Call) -> u32 {
-    if asked.kind < call::OPEN {
-        return asked.a;
-    }
-    std::num::wrapping_add_u32(asked.b % 65536 * 65536, asked.c)
-}
-
-fn y_of(asked: Call) -> u32 {
-    if asked.kind < call::OPEN {
-        asked.b
+// An insertion or a deletion that is done: the rows from its place on move by one.
+pub fn update(desk: &mut Desk, pair: Call, row: u32) {
+    let n = rows(desk);
+    let here = add(ROWS, row << 1);
+    let rest = sub(n, row) << 1;
+    if pair.kind == INSERT {
+        copy(desk, here, KEPT, rest);
+        copy(desk, KEPT, add(here, 2), rest);
+        put(desk, here, 0, pair.a);
+        put(desk, here, 1, pair.b);
+        put(desk, SIZES, 1, add(n, 1));
     } else {
-        asked.a
+        copy(desk, add(here, 2), here, rest);
+        put(desk, SIZES, 1, sub(n, 1));
     }
-}
-
-fn insert(desk: &[u32], slots: u32, x: u32) -> u32 {
-    if find(desk, x) < desk::wide(count(desk)) {
-        return call::TAKEN;
-    }
-    if slots <= count(desk) {
-        call::FULL
-    } else {
-        call::DONE
-    }
-}
-
-fn delete(desk: &[u32], x: u32, y: u32) -> u32 {
-    let i = find(desk, x);
-    if desk::wide(count(desk)) <= i {
-        return call::MISSING;
-    }
-    if y_at(desk, i) == y {
-        call::DONE
-    } else {
-        call::OTHER
-    }
-}
-
-// What a change is to tell.
-fn change_code(desk: &[u32], asked: Call, health: u32, slots: u32) -> u32 {
-    let refused = refusal(asked, health);
-    if (refused != 0) | (asked.kind == call::SET_UP) {
-        return refused;
-    }
-    if call::is_storing(asked.kind) {
-        return insert(desk, slots, x_of(asked));
-    }
-    delete(desk, x_of(asked), y_of(asked))
-}
-
-// One row more.
-fn store(desk: &mut [u32], x: u32, y: u32) {
-    let rows = count(desk);
-    write_row(
-        desk,
-        desk::wide(rows),
-        x,
-        y,
-        std::num::wrapping_add_u32(rows, 1),
-    );
-}
-
-// The last row moves into the gap.
-fn remove(desk: &mut [u32], x: u32) {
-    let last = std::num::wrapping_sub_u32(count(desk), 1);
-    let from = desk::wide(last);
-    write_row(
-        desk,
-        find(desk, x),
-        x_at(desk, from),
-        y_at(desk, from),
-        last,
-    );
-}
-
-// What a change is to tell; where that is 0, the list is changed.
-pub fn change(desk: &mut [u32], asked: Call, health: u32, slots: u32) -> u32 {
-    let code = change_code(desk, asked, health, slots);
-    if code != 0 {
-        return code;
-    }
-    if asked.kind == call::SET_UP {
-        desk::put(desk, desk::PAIRS, 0);
-    } else if call::is_storing(asked.kind) {
-        store(desk, x_of(asked), y_of(asked));
-    } else {
-        remove(desk, x_of(asked));
-    }
-    code
+    let empty = pick(rows(desk) == 0, 31, 0);
+    count(desk, pick(is_full(desk), 30, empty));
 }

@@ -1,16 +1,14 @@
--- `compare::litter` is safe and ends: the desk keeps its length, and the measure is the cells that are left.
+-- `compare::litter` is safe and ends: the measure is the cells that are left.
 use borrow.Author.Needs.{needs}
-use lib.ListN.{length}
 use Prim.Native.Nat.{_-_}
-use mathlib.Core.Path.{_≡_}
 use Rattle.compare.proofs.litter.Statement.{statement}
 use Rattle.compare.proofs.litter.Tie as tie
 
 abbrev Inv-loop : tie.InvT-loop
-Inv-loop desk₀ len i₀ desk i = length desk ≡ length desk₀
+Inv-loop desk₀ n i₀ desk i = Unit {0}
 
 abbrev μ-loop : tie.MeasureT-loop
-μ-loop desk₀ len i₀ desk i = len - i
+μ-loop desk₀ n i₀ desk i = n - i
 
 pub litter-spec : {M : Type 1} → statement M
 litter-spec =
@@ -21,9 +19,10 @@ litter-spec =
     (λ c. search needs)
     (λ c κs. search needs)
     (λ c κs. search needs)
+    (λ c κs. search needs)
+    (λ c κs. search needs)
     (λ c. search needs)
     (λ c. search needs)
     (λ c. search needs)
     (λ c κs. search needs)
-    (λ c. search needs)
     (λ c. search needs))

@@ -1,22 +1,24 @@
--- `compare::saved::is_ascending` is safe and ends: the measure is the pairs that are left.
+-- `compare::print` is safe and ends: the measure is the letters that are left.
 use borrow.Author.Needs.{needs}
 use Prim.Native.Nat.{_-_}
-use Rattle.compare.proofs.saved.is_ascending.Statement.{statement}
-use Rattle.compare.proofs.saved.is_ascending.Tie as tie
+use Rattle.compare.proofs.print.Statement.{statement}
+use Rattle.compare.proofs.print.Tie as tie
 
 abbrev Inv-loop : tie.InvT-loop
-Inv-loop bytes desk pairs last₀ i₀ last i = Unit {0}
+Inv-loop desk names n₀ i₀ t5 i-end n i = Unit {0}
 
 abbrev μ-loop : tie.MeasureT-loop
-μ-loop bytes desk pairs last₀ i₀ last i = pairs - i
+μ-loop desk names n₀ i₀ t5 i-end n i = i-end - i
 
-pub is-ascending-spec : {M : Type 1} → statement M
-is-ascending-spec =
+pub print-spec : {M : Type 1} → statement M
+print-spec =
     tie.close
     (tie.spec
     Inv-loop
     μ-loop
     (λ c. search needs)
+    (λ c. search needs)
+    (λ c. search needs)
     (λ c κs. search needs)
     (λ c κs. search needs)
     (λ c. search needs)
@@ -24,6 +26,9 @@ is-ascending-spec =
     (λ c κs. search needs)
     (λ c. search needs)
     (λ c. search needs)
+    (λ c. search needs)
+    (λ c. search needs)
+    (λ c κs. search needs)
     (λ c. search needs)
     (λ c. search needs)
     (λ c. search needs)

@@ -1,0 +1,35 @@
+-- `compare::lives` is safe and ends: the measure is the lives that are left.
+use borrow.Author.Needs.{needs}
+use Prim.Native.Nat.{_-_}
+use Rattle.compare.proofs.lives.Statement.{statement}
+use Rattle.compare.proofs.lives.Tie as tie
+
+abbrev Inv-loop : tie.InvT-loop
+Inv-loop desk₀ lens i₀ desk i = Unit {0}
+
+abbrev μ-loop : tie.MeasureT-loop
+μ-loop desk₀ lens i₀ desk i = 23 - i
+
+pub lives-spec : {M : Type 1} → statement M
+lives-spec =
+    tie.close
+    (tie.spec
+    Inv-loop
+    μ-loop
+    (λ c. search needs)
+    (λ c κs. search needs)
+    (λ c. search needs)
+    (λ c. search needs)
+    (λ c. search needs)
+    (λ c. search needs)
+    (λ c κs. search needs)
+    (λ c κs. search needs)
+    (λ c κs. search needs)
+    (λ c κs. search needs)
+    (λ c κs. search needs)
+    (λ c κs. search needs)
+    (λ c κs. search needs)
+    (λ c. search needs)
+    (λ c. search needs)
+    (λ c. search needs)
+    (λ c. search needs))
