@@ -56,5 +56,5 @@ pub record Room (c : List ℕ) (cell : ℕ) : Type 0 where
   pub slot : Slot c (freeOf c)
 
 -- the first free slot holds p, with links 0, and is linked from the cell; the next free slot is the first
-unfoldable pub taken : List ℕ → ℕ → Pair → List ℕ
-taken c cell p = let s = freeOf c in set (set (putLinks (putPair c s p) s 0 0) 2 (rightAt c s)) cell s
+unfoldable pub freeTaken : List ℕ → ℕ → Pair → List ℕ
+freeTaken c cell p = let s = freeOf c in set (set (putLinks (putPair c s p) s 0 0) 2 (rightAt c s)) cell s

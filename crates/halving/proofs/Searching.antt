@@ -41,9 +41,9 @@ module _ (c : List ℕ) (k s : ℕ) (at : Stripe) (x : ℕ) where
     step j e h false b = rw (e, tree-fork c j s ne, ne-eqb (pairAt c s .x) x h, b)
 
     module _ (h : pairAt c s .x ≡ x → ⊥) (b : Bool) (s′ : ℕ) (at′ : Stripe) (eb : b ≡ ltb x (middle at)) (es : s′ ≡ sonAt c s b) (ea : at′ ≡ partOf at x) where
-      pub goes-on : met itself x at′ (treeAt c (k - 1) s′) ≡ met itself x at (treeAt c k s)
+      pub search-goes-on : met itself x at′ (treeAt c (k - 1) s′) ≡ met itself x at (treeAt c k s)
       unfolding sonAt partOf
-      goes-on = rw (ea, es, ← eb) (step (k - 1) (sym (back k deep)) h b (sym eb))
+      search-goes-on = rw (ea, es, ← eb) (step (k - 1) (sym (back k deep)) h b (sym eb))
 
       pub sought-on : Sought c (k - 1) s′ at′
       sought-on =

@@ -12,8 +12,8 @@ use Rattle.way.proofs.Links.{link-low}
 use Rattle.hole.specs.Hole.{Heirs, no-sons, heir}
 
 module _ (c : List ℕ) (s : ℕ) {l r : ℕ} (el : l ≡ leftAt c s) (er : r ≡ rightAt c s) where
-  pub neither : l ≡ 0 → r ≡ 0 → Heirs c s 0
-  neither zl zr = no-sons (sym el ∙ zl) (sym er ∙ zr)
+  pub no-heir : l ≡ 0 → r ≡ 0 → Heirs c s 0
+  no-heir zl zr = no-sons (sym el ∙ zl) (sym er ∙ zr)
 
   pub only-right : {h : ℕ} → l ≡ 0 → r ≢ 0 → h ≡ linkCell s false → Heirs c s h
   unfolding sonAt

@@ -9,8 +9,8 @@ use Rattle.kinds.specs.Stripe.{In, rootStripe, middle, leftPart, rightPa
 use Rattle.kinds.proofs.Tests.{on}
 
 -- law: a width is not 0
-pub some : (k : ℕ) → 1 ≤ 2 ^ k
-some k = one-le-pow k 2 (omega arith)
+pub power-some : (k : ℕ) → 1 ≤ 2 ^ k
+power-some k = one-le-pow k 2 (omega arith)
 
 -- the place of x in its stripe
 module _ (k x : ℕ) where
@@ -18,7 +18,7 @@ module _ (k x : ℕ) where
   whole = div-add-mod' x (2 ^ k)
 
   less : x % 2 ^ k < 2 ^ k
-  less = mod-lt x (some k)
+  less = mod-lt x (power-some k)
 
   -- law: x lies in it
   pub in-at : In (stripeAt k x) x

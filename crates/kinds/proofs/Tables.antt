@@ -86,10 +86,10 @@ pub data Decided (ls : List Line) (c out : List ℕ) (made : Result) : Result �
   refused-with : (k : ℕ) → k ≢ 0 → Decided ls c out made (record { answer = refused k; cells = c; lent = out })
   made-as : NoLine ls → Decided ls c out made made
 
-pub decided : (ls : List Line) (c out : List ℕ) (made : Result) → Coded ls → Decided ls c out made (byLines ls c out made)
+pub table-decided : (ls : List Line) (c out : List ℕ) (made : Result) → Coded ls → Decided ls c out made (byLines ls c out made)
 unfolding byLines
-decided [] c out made k = made-as tt
-decided (l ∷ ls) c out made k = go (decided ls c out made (k .1)) (l .when) refl
+table-decided [] c out made k = made-as tt
+table-decided (l ∷ ls) c out made k = go (table-decided ls c out made (k .1)) (l .when) refl
   where
     later : {w : Result} → Decided ls c out made w → l .when ≡ false → Decided (l ∷ ls) c out made w
     later (refused-with j n) f = refused-with j n

@@ -5,7 +5,7 @@ ghost use mathlib.Core.Path.{_≡_};
 ghost use mathlib.Core.List.{[], _∷_};
 ghost use lib.ListN.{length};
 ghost use Rattle.line.specs.Line.{isDigit, leadingZero, askedBy, words};
-ghost use Rattle.line.specs.Reading.{wordLength, digitsOf, numberOf, numbersAfter, ofLetter};
+ghost use Rattle.line.specs.Reading.{wordLength, digitsOf, numberIn, numbersAfter, ofLetter};
 
 // The most bytes of a line before its newline.
 const LONGEST: usize = 63;
@@ -14,8 +14,8 @@ const SPACE: u8 = 32;
 
 const ZERO: u8 = 48;
 
-// The largest number.
-const LARGEST: u64 = 4294967295;
+// The largest number of 32 bits.
+const LARGEST_32: u64 = 4294967295;
 
 // What a line asks.
 pub enum Asked {
@@ -79,7 +79,7 @@ fn digits_in(word: &[u8]) -> Number
             return Number::Not;
         }
         sum = sum * 10 + wide(b - ZERO);
-        if LARGEST < sum {
+        if LARGEST_32 < sum {
             return Number::Not;
         }
         i += 1;
@@ -88,7 +88,7 @@ fn digits_in(word: &[u8]) -> Number
 }
 
 fn number_in(word: &[u8]) -> Number
-    ensures { λ r. ⌜ r ≡ numberOf (now (word .entry)) ⌝ }
+    ensures { λ r. ⌜ r ≡ numberIn (now (word .entry)) ⌝ }
 {
     if word.len() == 0 {
         return Number::Not;

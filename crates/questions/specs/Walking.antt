@@ -21,7 +21,7 @@ abbrev pub Some : List ℕ → ℕ → Type 0
 Some c s = (s ≡ 0 → ⊥) → Fits c s
 
 -- what a walk may rely on at a place, so many levels down, after v visits: the link leads to the tree that is read, and the visits fit 32 bits
-pub record Asked (c : List ℕ) (k s : ℕ) (at : Stripe) (v : ℕ) : Type 0 where
+pub record Walkable (c : List ℕ) (k s : ℕ) (at : Stripe) (v : ℕ) : Type 0 where
   pub leads : Leads c s (treeAt c k s)
   pub low : Low at
   pub few : v + size (treeAt c k s) < 4294967296

@@ -11,7 +11,7 @@ use Rattle.kinds.specs.Codes as codes
 use Rattle.kinds.specs.Promise.{Line, NoLine, firstCode}
 use Rattle.kinds.proofs.Tables.{none-of, no-code}
 use Rattle.kinds.proofs.Tests.{neither}
-use Rattle.plain.proofs.Limits.{strip-fits as numbers-fit}
+use Rattle.plain.proofs.Limits.{strip-fits}
 use Rattle.plain.specs.Strips.{over, badStrip, stripLine, orderLine, stripLines, slotLines, slotsLines}
 
 -- a line that holds gives its code
@@ -58,11 +58,11 @@ pub strip-off : (start end number : ℕ) → firstCode (stripLines start end num
 strip-off start end number e = none-of (stripLines start end number) (omega arith, tt) e
 
 -- law: so the numbers fit
-pub slot-fits : (u : ℕ) → firstCode (slotLines u) ≡ 0 → u ≤ 65535
-slot-fits u e = ltb-false 65535 u (slot-off u e .0)
+pub slot-small : (u : ℕ) → firstCode (slotLines u) ≡ 0 → u ≤ 65535
+slot-small u e = ltb-false 65535 u (slot-off u e .0)
 
-pub slots-fit : (u v : ℕ) → firstCode (slotsLines u v) ≡ 0 → (u ≤ 65535) × (v ≤ 65535)
-slots-fit u v e = let a = neither (over u) (over v) (slots-off u v e .0) in (ltb-false 65535 u (a .0), ltb-false 65535 v (a .1))
+pub slots-small : (u v : ℕ) → firstCode (slotsLines u v) ≡ 0 → (u ≤ 65535) × (v ≤ 65535)
+slots-small u v e = let a = neither (over u) (over v) (slots-off u v e .0) in (ltb-false 65535 u (a .0), ltb-false 65535 v (a .1))
 
-pub strip-fits : (start end number : ℕ) → firstCode (stripLines start end number) ≡ 0 → (end ≤ 65535) × (number ≤ 65535)
-strip-fits start end number e = numbers-fit start end number (strip-off start end number e .0)
+pub strip-parts-small : (start end number : ℕ) → firstCode (stripLines start end number) ≡ 0 → (end ≤ 65535) × (number ≤ 65535)
+strip-parts-small start end number e = strip-fits start end number (strip-off start end number e .0)

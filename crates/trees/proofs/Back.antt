@@ -64,6 +64,6 @@ module _ {A : Type 0} (key : A → Pair) where
   put-back f p s t w i e = taken-value key (down-taken (down-view key f p s t w i e) w e)
 
   -- law: what was taken out goes down, at the slot given up, to the tree as it was
-  pub taken-back : (p : A) (s : Stripe) (t : Tree A) → Well key s t → Mem p t
+  pub back-down : (p : A) (s : Stripe) (t : Tree A) → Well key s t → Mem p t
       → goDown key (takeOut key (key p .x) s t .slot) p s (takeOut key (key p .x) s t .tree) ≡ t
-  taken-back p s t w m = down-value key _ (taken-down (taken-view key p s t w m) w)
+  back-down p s t w m = down-value key _ (taken-down (taken-view key p s t w m) w)

@@ -34,7 +34,7 @@ module _ {A : Type 0} (key : A → Pair) where
         → Down f z (rightPart s) r t → Down f p s (fork i q l r) (fork i w l t)
 
   -- what is known of the one that stays, w, and of the one that goes on, z
-  pub record Step (s : Stripe) (w z : A) (l r : Tree A) : Type 0 where
+  pub record StepDown (s : Stripe) (w z : A) (l r : Tree A) : Type 0 where
     pub under : Under (key w) (key z)
     pub over-left : All (λ q. Under (key w) (key q)) l
     pub over-right : All (λ q. Under (key w) (key q)) r
@@ -44,7 +44,7 @@ module _ {A : Type 0} (key : A → Pair) where
     pub new-right : New key (key z .x) r
 
   pub step : {s : Stripe} {p q w z : A} {l r : Tree A} {L R : Type 0} → Sorted p q w z → Well-fork key s q l r L R
-      → In s (key p .x) → key p .x ≢ key q .x → New key (key p .x) l → New key (key p .x) r → Step s w z l r
+      → In s (key p .x) → key p .x ≢ key q .x → New key (key p .x) l → New key (key p .x) r → StepDown s w z l r
   step {q = q} {l = l} {r = r} (swap b) f i e el er = record {
     under = record { beaten = b; apart = e };
     over-left = all-and (λ _ u v. record { beaten = beats-trans b (u .beaten); apart = v }) l (f .over-left) el;

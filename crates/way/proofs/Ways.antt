@@ -124,8 +124,8 @@ module _ {c : List ℕ} (s : Sound c) where
 
     -- a slot on the way
     module _ {k cell : ℕ} (w : OnTheWay c x k cell) (ne : getD c cell 0 ≢ 0) where
-      pub slot-fits : Fits c (getD c cell 0)
-      slot-fits = leads-fits c (place-there w .leads) ne
+      pub slot-on-way : Fits c (getD c cell 0)
+      slot-on-way = leads-fits c (place-there w .leads) ne
 
       -- law: the tree holds its pair
       pub mem-there : Mem (pairAt c (getD c cell 0)) (s .tree)

@@ -3,7 +3,7 @@
 use Prim.Native.Nat.{ℕ, _+_, _*_, _<_}
 use native.Mathlib.Omega.{arith}
 use Rattle.questions.proofs.Places.{there, one-more}
-use Rattle.lowest.proofs.YWalk.{left-deep, right-deep, left-here, right-here, right-then, both, left-only, right-only, neither, sons-asked, own-pair, below}
+use Rattle.lowest.proofs.YWalk.{left-deep, right-deep, left-here, right-here, right-then, both-asked, left-only, right-only, neither-asked, sons-asked, own-pair, from-sons}
 use borrow.Author.Needs.{needs}
 use borrow.Fn.Kinds.{In}
 use borrow.Fn.PlainCycle.{Measures, is, falls, and}
@@ -103,7 +103,7 @@ better-son-returns t c =
     let at-asks = at-goes-left2 .before in
     let at-goes-left = at-asks .before in
     let at-entry = at-goes-left .before .before in
-    both _ _ _ _ _ _ _ _ (at-entry .pre .1) _ (at-goes-left .goes-left .ensures) _ (at-asks .asks .ensures) _ (at-goes-left2 .goes-left2 .ensures) _ (at-asks2 .asks2 .ensures) _ (at-if1 .if1 .taken) (at-left .left .ensures) _ _ (at-smallest-y-at .smallest-y-at .ensures) _ (at-if2 .if2 .taken) (at-right .right .ensures) _ _ _ (at-smallest-y-at2 .smallest-y-at2 .ensures) (c .lower .ensures)
+    both-asked _ _ _ _ _ _ _ _ (at-entry .pre .1) _ (at-goes-left .goes-left .ensures) _ (at-asks .asks .ensures) _ (at-goes-left2 .goes-left2 .ensures) _ (at-asks2 .asks2 .ensures) _ (at-if1 .if1 .taken) (at-left .left .ensures) _ _ (at-smallest-y-at .smallest-y-at .ensures) _ (at-if2 .if2 .taken) (at-right .right .ensures) _ _ _ (at-smallest-y-at2 .smallest-y-at2 .ensures) (c .lower .ensures)
 
 better-son-returns-2 : (t : ℕ) → better-son-lts.Need-returns-2 (better-son-calls t) (better-son-at t) better-son.Post
 better-son-returns-2 t c =
@@ -148,7 +148,7 @@ better-son-returns-4 t c =
     let at-asks = at-goes-left2 .before in
     let at-goes-left = at-asks .before in
     let at-entry = at-goes-left .before .before in
-    neither _ _ _ _ _ _ _ _ (at-entry .pre .1) _ (at-goes-left .goes-left .ensures) _ (at-asks .asks .ensures) _ (at-goes-left2 .goes-left2 .ensures) _ (at-asks2 .asks2 .ensures) (at-if1 .if1 .left) (c .if3 .left)
+    neither-asked _ _ _ _ _ _ _ _ (at-entry .pre .1) _ (at-goes-left .goes-left .ensures) _ (at-asks .asks .ensures) _ (at-goes-left2 .goes-left2 .ensures) _ (at-asks2 .asks2 .ensures) (at-if1 .if1 .left) (c .if3 .left)
 
 smallest-y-at-add-visits : (t : ℕ) → smallest-y-at-lts.Need-add-visits (smallest-y-at-calls t) (smallest-y-at-at t) smallest-y-at.Post
 smallest-y-at-add-visits t c = let z = one-more _ _ _ _ _ (c .before .before .pre .1 .0) (c .before .before .pre .1 .1) in omega arith
@@ -180,7 +180,7 @@ smallest-y-at-returns-2 t c =
     let at-in-range = at-if1 .before in
     let at-pair = at-in-range .before in
     let at-entry = at-pair .before .before .before in
-    below _ _ _ _ _ (at-entry .pre .1 .0) (at-entry .pre .1 .1) _ _ _ (at-pair .pair .ensures) _ (at-in-range .in-range .ensures) (at-if1 .if1 .left) _ _ (at-left .left .ensures) (at-right .right .ensures) _ _ (c .better-son .ensures)
+    from-sons _ _ _ _ _ (at-entry .pre .1 .0) (at-entry .pre .1 .1) _ _ _ (at-pair .pair .ensures) _ (at-in-range .in-range .ensures) (at-if1 .if1 .left) _ _ (at-left .left .ensures) (at-right .right .ensures) _ _ (c .better-son .ensures)
 
 pub +better-son+smallest-y-at-spec : {M : Type 1} → statement M
 +better-son+smallest-y-at-spec = close μ-better-son μ-smallest-y-at (λ t. better-son-lts.spec (better-son-calls t) (better-son-at t) better-son.Post
