@@ -8,7 +8,8 @@ use lib.Dec.{leb, eqb}
 use lib.ListN.{length}
 use borrow.Author.Tests.{eq-eqb, ne-eqb, le-leb, lt-leb, leb-true}
 use Rattle.kinds.specs.declared.Pair.{Pair}
-use Rattle.pools.specs.Cells.{perSlot, slotsOf, freeOf, countOf, Fits, pairAt, leftAt, rightAt, freeMark, isFree}
+use Rattle.pools.specs.Cells.{perSlot, slotsOf, freeOf, countOf, pairAt, leftAt, rightAt, freeMark, isFree}
+use Rattle.pools.specs.Links.{Fits}
 use Rattle.pools.specs.Test.{freeFine, chainFine}
 use Rattle.kinds.proofs.Tests.{all-three, and-false}
 use Rattle.pools.proofs.Leads.{back}

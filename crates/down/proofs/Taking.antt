@@ -8,7 +8,8 @@ use native.Mathlib.Omega.{arith}
 use lib.ListN.{length, getD, set, length-set}
 use lib.Seq.{getD-set-same, getD-set-other}
 use Rattle.kinds.specs.declared.Pair.{Pair}
-use Rattle.trees.specs.Tree.{none, fork, at-top}
+use Rattle.trees.specs.Tree.{none, fork}
+use Rattle.trees.specs.Standing.{at-top}
 use Rattle.pools.specs.Cells.{perSlot, freeOf, rightAt, putPair, putLinks}
 use Rattle.pools.specs.Sound.{nowhere}
 use Rattle.pools.proofs.Agreement.{SlotHolds, holds-agree, same-slot, slot-as, slot-fits, putSlot, slot-wrote, slot-read}

@@ -7,8 +7,10 @@ use mathlib.Core.List.{List}
 use lib.ListN.{length, set}
 use Rattle.kinds.specs.declared.Pair.{Pair}
 use Rattle.kinds.specs.Pairs.{beats}
-use Rattle.kinds.specs.Stripe.{stripeAt, lowLevels}
-use Rattle.trees.specs.Tree.{Tree, Well, Stands, New, itself}
+use Rattle.kinds.specs.Stripe.{lowLevels}
+use Rattle.kinds.specs.Heights.{stripeAt}
+use Rattle.trees.specs.Tree.{Tree, Well, itself}
+use Rattle.trees.specs.Standing.{Stands, New}
 use Rattle.trees.specs.Changes.{goDown}
 use Rattle.pools.specs.Cells.{perSlot, freeOf, pairAt, rightAt, putPair, putLinks}
 use Rattle.pools.specs.Sound.{Sound, Slot}

@@ -2,7 +2,8 @@
 use kinds::Pair;
 use kinds::Stripe;
 ghost use mathlib.Core.Path.{_≡_};
-ghost use Rattle.pools.specs.Cells.{Fits, stored};
+ghost use Rattle.pools.specs.Cells.{stored};
+ghost use Rattle.pools.specs.Links.{Fits};
 ghost use Rattle.pools.specs.Laid.{inserted};
 ghost use Rattle.plain.specs.Plain.{hasX};
 ghost use Rattle.pools.specs.Sound.{Sound};

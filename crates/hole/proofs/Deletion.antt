@@ -8,7 +8,8 @@ use native.Mathlib.Omega.{arith}
 use lib.ListN.{getD, set}
 use Rattle.kinds.specs.declared.Pair.{Pair}
 use Rattle.plain.specs.Plain.{has}
-use Rattle.trees.specs.Tree.{Tree, members, size, Mem, here, in-left, in-right, Stands}
+use Rattle.trees.specs.Tree.{Tree, members, size, Mem, here, in-left, in-right}
+use Rattle.trees.specs.Standing.{Stands}
 use Rattle.pools.specs.Cells.{freeOf, countOf, freeMark, pairAt, stored}
 use Rattle.pools.specs.Sound.{Sound}
 use Rattle.kinds.proofs.Tests.{on}

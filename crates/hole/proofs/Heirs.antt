@@ -7,7 +7,8 @@ use mathlib.Core.List.{List}
 use native.Mathlib.Omega.{arith}
 use Rattle.kinds.specs.declared.Pair.{Pair}
 use Rattle.kinds.specs.Pairs.{beats}
-use Rattle.pools.specs.Cells.{pairAt, leftAt, rightAt, sonAt, linkCell}
+use Rattle.pools.specs.Cells.{pairAt, leftAt, rightAt}
+use Rattle.pools.specs.Links.{sonAt, linkCell}
 use Rattle.way.proofs.Links.{link-low}
 use Rattle.hole.specs.Hole.{Heirs, no-sons, heir}
 

@@ -3,7 +3,8 @@ use Prim.Native.Nat.{ℕ}
 use mathlib.Core.Path.{_≡_, refl}
 use native.Mathlib.Omega.{arith}
 use lib.Dec.{ltb}
-use Rattle.kinds.specs.Stripe.{Stripe, Low, rootStripe, middle, leftPart, rightPart, partOf}
+use Rattle.kinds.specs.Stripe.{Stripe, rootStripe, middle, leftPart, rightPart}
+use Rattle.kinds.specs.Heights.{Low, partOf}
 use Rattle.kinds.proofs.Tests.{on}
 
 pub low-root : {p : Stripe} → p ≡ rootStripe → Low p

@@ -7,8 +7,13 @@ use mathlib.Core.List.{List, [], _∷_, _++_}
 use borrow.Author.Tests.{ne-eqb}
 use Rattle.kinds.specs.declared.Answer.{Answer}
 use Rattle.kinds.specs.Answer.{five, refused, numbersOf}
-use Rattle.kinds.specs.Promise.{Line, Result, byLines, NoLine, firstCode, behind, given, Gives, Keeps, Promise, accepted}
+use Rattle.kinds.specs.Promise.{Line, Result, byLines, firstCode, behind, Gives, Keeps, Promise, accepted}
 use Rattle.kinds.proofs.Tests.{on, clash}
+
+-- no line of a table holds
+abbrev pub NoLine : List Line → Type 0
+NoLine [] = Unit {0}
+NoLine (l ∷ ls) = (l .when ≡ false) × NoLine ls
 
 -- what is given, by an answer that is the one given
 pub gives : {w : Result} {r : Answer} {c out : List ℕ} → r ≡ w .answer → c ≡ w .cells → out ≡ w .lent → Gives w r c out

@@ -13,7 +13,8 @@ use Rattle.kinds.specs.declared.Walked.{Walked}
 use Rattle.pools.specs.Cells.{pairAt, leftAt, rightAt, treeAt}
 use Rattle.plain.specs.Plain.{inRange}
 use Rattle.pools.specs.Sound.{Leads}
-use Rattle.kinds.specs.Stripe.{Stripe, Low, middle, leftPart, rightPart}
+use Rattle.kinds.specs.Stripe.{Stripe, middle, leftPart, rightPart}
+use Rattle.kinds.specs.Heights.{Low}
 use Rattle.trees.specs.Tree.{none, size}
 use Rattle.walks.specs.Walks.{seen, ask, smallestY}
 use Rattle.plain.proofs.Closest.{closest-nothing}

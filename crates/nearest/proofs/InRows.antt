@@ -11,7 +11,8 @@ use Rattle.kinds.specs.declared.Finding.the-variants.{Nothing}
 use Rattle.kinds.specs.declared.Limits.{Limits}
 use Rattle.kinds.specs.declared.Pair.{Pair}
 use Rattle.kinds.specs.declared.Walked.{Walked}
-use Rattle.pools.specs.Cells.{Fits, pairAt, rootOf, treeAt}
+use Rattle.pools.specs.Cells.{pairAt, rootOf, treeAt}
+use Rattle.pools.specs.Links.{Fits}
 use Rattle.plain.specs.Plain.{inRange}
 use Rattle.pools.specs.Sound.{Sound}
 use Rattle.kinds.specs.Stripe.{lowLevels, allLevels, Stripe, rootStripe}

@@ -9,7 +9,8 @@ use Rattle.kinds.specs.declared.Finding.the-variants.{Nothing}
 use Rattle.kinds.specs.declared.Limits.{Limits}
 use Rattle.kinds.specs.declared.Pair.{Pair}
 use Rattle.kinds.specs.declared.Walked.{Walked}
-use Rattle.pools.specs.Cells.{pairAt, leftAt, rightAt, sonAt, treeAt}
+use Rattle.pools.specs.Cells.{pairAt, leftAt, rightAt, treeAt}
+use Rattle.pools.specs.Links.{sonAt}
 use Rattle.plain.specs.Plain.{smaller, larger}
 use Rattle.pools.specs.Sound.{Leads}
 use Rattle.kinds.specs.Stripe.{lowLevels, allLevels, Stripe, middle, leftPart, rightPart}

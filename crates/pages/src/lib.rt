@@ -2,7 +2,6 @@
 use kinds::Finding;
 use kinds::Pair;
 ghost use mathlib.Core.Path.{_≡_};
-ghost use mathlib.Core.List.{_++_};
 ghost use Prim.Native.Nat.{_+_, _*_, _≤_, _<_};
 ghost use lib.ListN.{length};
 ghost use Rattle.pools.specs.Cells.{stored};

@@ -8,8 +8,10 @@ use borrow.Author.Tests.{not-false}
 use lib.ListN.{length, length-take}
 use Rattle.kinds.specs.declared.Answer.{Answer}
 use Rattle.kinds.specs.declared.Limits.{Limits}
-use Rattle.kinds.specs.Answer.{five, refused, listedBy}
-use Rattle.kinds.specs.Promise.{Line, Result, Promise, NoLine, byLines, given}
+use Rattle.kinds.specs.Answer.{five, refused}
+use Rattle.kinds.specs.Making.{listedBy}
+use Rattle.kinds.specs.Promise.{Line, Result, Promise, byLines, given}
+use Rattle.kinds.proofs.Tables.{NoLine}
 use Rattle.kinds.specs.Stripe.{rootStripe}
 use Rattle.kinds.proofs.Numbers.{five-visits, five-count, refused-numbers}
 use Rattle.kinds.proofs.Tests.{on}

@@ -7,8 +7,10 @@ use native.Mathlib.Omega.{arith}
 use lib.ListN.{length, getD, set, length-set}
 use lib.Seq.{getD-set-same, getD-set-other, set-getD, ext-getD}
 use Rattle.kinds.specs.declared.Pair.{Pair}
-use Rattle.trees.specs.Tree.{Tree, none, fork, Stands, at-top, at-left, at-right}
-use Rattle.pools.specs.Cells.{perSlot, slotsOf, Fits, pairAt, leftAt, rightAt, putHeader, putPair, putLinks, putFree, freeMark}
+use Rattle.trees.specs.Tree.{Tree, none, fork}
+use Rattle.trees.specs.Standing.{Stands, at-top, at-left, at-right}
+use Rattle.pools.specs.Cells.{perSlot, slotsOf, pairAt, leftAt, rightAt, putHeader, putPair, putLinks, putFree, freeMark}
+use Rattle.pools.specs.Links.{Fits}
 use Rattle.pools.specs.Sound.{Pool, Slot, Leads, nowhere, slot, Free, Chain, ends, next}
 use Rattle.pools.specs.Laid.{top}
 use Rattle.kinds.proofs.Order.{pair-ext}

@@ -7,7 +7,8 @@ use native.Mathlib.Omega.{arith}
 use lib.ListN.{length}
 use Rattle.kinds.specs.declared.Pair.{Pair}
 use Rattle.kinds.specs.Stripe.{rootStripe}
-use Rattle.trees.specs.Tree.{Tree, size, Well, itself, Stands, Distinct}
+use Rattle.trees.specs.Tree.{Tree, size, Well, itself}
+use Rattle.trees.specs.Standing.{Stands, Distinct}
 use Rattle.pools.specs.Cells.{slotsOf, rootOf, freeOf, countOf, putHeader}
 use Rattle.pools.specs.Sound.{Pool, Slot, Leads, Chain, Sound}
 use Rattle.pools.specs.Laid.{top, lay}

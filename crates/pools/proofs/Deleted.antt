@@ -7,7 +7,8 @@ use native.Mathlib.Omega.{arith}
 use lib.ListN.{length}
 use Rattle.kinds.specs.declared.Pair.{Pair}
 use Rattle.kinds.specs.Stripe.{rootStripe}
-use Rattle.trees.specs.Tree.{size, Mem, Well, itself, New, Stands}
+use Rattle.trees.specs.Tree.{size, Mem, Well, itself}
+use Rattle.trees.specs.Standing.{New, Stands}
 use Rattle.trees.specs.Changes.{Cut, takeOut}
 use Rattle.pools.specs.Cells.{freeOf, countOf, freeMark, putHeader, putFree, stored}
 use Rattle.pools.specs.Sound.{Slot, Chain, next, Sound}

@@ -7,7 +7,8 @@ use native.Mathlib.Omega.{arith}
 use lib.ListN.{length}
 use Rattle.kinds.specs.declared.Pair.{Pair}
 use Rattle.kinds.specs.Stripe.{In, rootStripe}
-use Rattle.trees.specs.Tree.{Tree, Well, itself, New, Stands}
+use Rattle.trees.specs.Tree.{Tree, Well, itself}
+use Rattle.trees.specs.Standing.{New, Stands}
 use Rattle.trees.specs.Changes.{goDown}
 use Rattle.pools.specs.Cells.{freeOf, countOf, rightAt, putHeader, stored}
 use Rattle.pools.specs.Sound.{Slot, Free, Chain, ends, next, Sound}

@@ -4,7 +4,8 @@ use mathlib.Core.Path.{_≡_, refl, _∙_}
 use mathlib.Core.List.{List}
 use lib.ListN.{length}
 use Rattle.kinds.specs.declared.Pair.{Pair}
-use Rattle.trees.specs.Tree.{Tree, none, fork, Stands, at-top, at-left, at-right, Distinct}
+use Rattle.trees.specs.Tree.{Tree, none, fork}
+use Rattle.trees.specs.Standing.{Stands, at-top, at-left, at-right, Distinct}
 use Rattle.pools.specs.Sound.{Slot, Leads, nowhere, slot}
 use Rattle.pools.specs.Laid.{top, lay}
 use Rattle.pools.proofs.Agreement.{Agree, agree-same, agree-then, same-slot, slot-as, leads-top, leads-frame, slot-wrote, slot-read, slot-same, slot-fits}

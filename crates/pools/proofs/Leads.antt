@@ -9,7 +9,8 @@ use lib.Dec.{eqb}
 use borrow.Author.Tests.{eq-eqb, ne-eqb}
 use Rattle.kinds.specs.declared.Pair.{Pair}
 use Rattle.trees.specs.Tree.{Tree, none, fork, size, Within}
-use Rattle.pools.specs.Cells.{Fits, pairAt, leftAt, rightAt, sonAt, treeAt}
+use Rattle.pools.specs.Cells.{pairAt, leftAt, rightAt, treeAt}
+use Rattle.pools.specs.Links.{Fits, sonAt}
 use Rattle.pools.specs.Sound.{Leads, nowhere, slot}
 use Rattle.kinds.proofs.Tests.{on}
 

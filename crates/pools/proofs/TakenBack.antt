@@ -6,7 +6,8 @@ use mathlib.Core.List.{List}
 use native.Mathlib.Omega.{arith}
 use Rattle.kinds.specs.declared.Pair.{Pair}
 use Rattle.kinds.specs.Stripe.{rootStripe}
-use Rattle.trees.specs.Tree.{Mem, itself, New}
+use Rattle.trees.specs.Tree.{Mem, itself}
+use Rattle.trees.specs.Standing.{New}
 use Rattle.pools.specs.Cells.{freeOf, countOf, rightAt, freeMark}
 use Rattle.pools.specs.Sound.{Sound}
 use Rattle.pools.specs.Laid.{inserted, deleted}

@@ -4,7 +4,8 @@ use mathlib.Core.Path.{_≡_}
 use mathlib.Core.Bool.{true, false}
 use mathlib.Core.List.{List}
 use native.Mathlib.Omega.{arith}
-use Rattle.pools.specs.Cells.{Fits, leftAt, rightAt, sonAt, treeAt}
+use Rattle.pools.specs.Cells.{leftAt, rightAt, treeAt}
+use Rattle.pools.specs.Links.{Fits, sonAt}
 use Rattle.kinds.specs.Stripe.{Stripe, leftPart, rightPart}
 use Rattle.trees.specs.Tree.{size}
 use Rattle.pools.proofs.Leads.{back, tree-fork, leads-deep, leads-fits, leads-son}

@@ -7,7 +7,8 @@ use Rattle.kinds.specs.declared.Finding.{Finding}
 use Rattle.kinds.specs.declared.Finding.the-variants.{Nothing}
 use Rattle.kinds.specs.declared.Pair.{Pair}
 use Rattle.kinds.specs.declared.Walked.{Walked}
-use Rattle.pools.specs.Cells.{mostSlots, Fits, rootOf, treeAt}
+use Rattle.pools.specs.Cells.{mostSlots, rootOf, treeAt}
+use Rattle.pools.specs.Links.{Fits}
 use Rattle.pools.specs.Sound.{Sound}
 use Rattle.kinds.specs.Stripe.{allLevels, Stripe, rootStripe}
 use Rattle.trees.specs.Tree.{Tree, none, size}

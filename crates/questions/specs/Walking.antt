@@ -7,9 +7,11 @@ use lib.Dec.{eqb}
 use Rattle.kinds.specs.declared.Finding.{Finding}
 use Rattle.kinds.specs.declared.Finding.the-variants.{Found, Nothing}
 use Rattle.kinds.specs.declared.Walked.{Walked}
-use Rattle.pools.specs.Cells.{Fits, pairAt, treeAt}
+use Rattle.pools.specs.Cells.{pairAt, treeAt}
+use Rattle.pools.specs.Links.{Fits}
 use Rattle.pools.specs.Sound.{Leads}
-use Rattle.kinds.specs.Stripe.{Stripe, Low}
+use Rattle.kinds.specs.Stripe.{Stripe}
+use Rattle.kinds.specs.Heights.{Low}
 use Rattle.trees.specs.Tree.{size}
 
 -- the finding that a slot's number stands for

@@ -3,8 +3,8 @@
 use Prim.Native.Nat.{ℕ}
 use mathlib.Core.Path.{_≡_, refl}
 use mathlib.Core.List.{List, [], _∷_}
-use Rattle.kinds.specs.Promise.{Line, Result, Promise, NoLine, byLines, given}
-use Rattle.kinds.proofs.Tables.{passed}
+use Rattle.kinds.specs.Promise.{Line, Result, Promise, byLines, given}
+use Rattle.kinds.proofs.Tables.{NoLine, passed}
 use Rattle.kinds.proofs.Tests.{on}
 use Rattle.plain.specs.Books.{Book, Plainly}
 use Rattle.sound.specs.Promises.{checkLines, behindCheck}

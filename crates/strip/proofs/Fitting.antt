@@ -8,8 +8,8 @@ use native.Mathlib.Omega.{arith}
 use lib.Dec.{ltb}
 use borrow.Author.Tests.{ltb-false, lt-ltb, le-ltb}
 use Rattle.kinds.specs.Codes as codes
-use Rattle.kinds.specs.Promise.{Line, NoLine, firstCode}
-use Rattle.kinds.proofs.Tables.{none-of, no-code}
+use Rattle.kinds.specs.Promise.{Line, firstCode}
+use Rattle.kinds.proofs.Tables.{NoLine, none-of, no-code}
 use Rattle.kinds.proofs.Tests.{neither}
 use Rattle.plain.proofs.Limits.{strip-fits}
 use Rattle.plain.specs.Strips.{over, badStrip, stripLine, orderLine, stripLines, slotLines, slotsLines}

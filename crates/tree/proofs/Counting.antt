@@ -10,10 +10,12 @@ use lib.Dec.{ltb}
 use borrow.Author.Tests.{eq-eqb, ne-eqb}
 use Rattle.kinds.specs.declared.Pair.{Pair}
 use Rattle.kinds.specs.Pairs.{beats}
-use Rattle.kinds.specs.Stripe.{lowLevels, Stripe, Low, middle, leftPart, rightPart}
+use Rattle.kinds.specs.Stripe.{lowLevels, Stripe, middle, leftPart, rightPart}
+use Rattle.kinds.specs.Heights.{Low}
 use Rattle.trees.specs.Tree.{size}
 use Rattle.trees.specs.Changes.{met}
-use Rattle.pools.specs.Cells.{Fits, pairAt, leftAt, rightAt, treeAt}
+use Rattle.pools.specs.Cells.{pairAt, leftAt, rightAt, treeAt}
+use Rattle.pools.specs.Links.{Fits}
 use Rattle.pools.specs.Test.{slotFine, alone, fine, below}
 use Rattle.pools.proofs.Leads.{back, tree-none, tree-fork, few}
 use Rattle.pools.proofs.Decided.{fine-true}

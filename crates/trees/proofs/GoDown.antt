@@ -10,7 +10,8 @@ use borrow.Author.Tests.{ltb-true, ltb-false, lt-ltb, le-ltb}
 use Rattle.kinds.specs.declared.Pair.{Pair}
 use Rattle.kinds.specs.Pairs.{Beats, beats}
 use Rattle.kinds.specs.Stripe.{Stripe, In, middle, leftPart, rightPart}
-use Rattle.trees.specs.Tree.{Tree, none, fork, All, Mem, Under, Well-fork, Well, New}
+use Rattle.trees.specs.Tree.{Tree, none, fork, All, Mem, Under, Well-fork, Well}
+use Rattle.trees.specs.Standing.{New}
 use Rattle.trees.specs.Changes.{goDown}
 use Rattle.kinds.proofs.Tests.{on}
 use Rattle.kinds.proofs.Order.{beats-true, true-beats, false-beats, beats-false, beats-trans}

@@ -6,7 +6,8 @@ use native.Mathlib.Omega.{arith}
 use lib.ListN.{set, length-set}
 use lib.Seq.{getD-set-same, getD-set-other}
 use Rattle.kinds.specs.declared.Pair.{Pair}
-use Rattle.trees.specs.Tree.{Tree, Stands}
+use Rattle.trees.specs.Tree.{Tree}
+use Rattle.trees.specs.Standing.{Stands}
 use Rattle.pools.specs.Cells.{freeOf}
 use Rattle.pools.specs.Sound.{Sound}
 use Rattle.kinds.proofs.Order.{pair-ext}

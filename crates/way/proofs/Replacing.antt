@@ -8,8 +8,10 @@ use mathlib.Core.List.{List}
 use native.Mathlib.Omega.{arith}
 use lib.ListN.{length, getD}
 use Rattle.kinds.specs.declared.Pair.{Pair}
-use Rattle.trees.specs.Tree.{Tree, Stands, Distinct-fork, Distinct}
-use Rattle.pools.specs.Cells.{perSlot, Fits, pairAt, sonAt, linkCell, putPair}
+use Rattle.trees.specs.Tree.{Tree}
+use Rattle.trees.specs.Standing.{Stands, Distinct-fork, Distinct}
+use Rattle.pools.specs.Cells.{perSlot, pairAt, putPair}
+use Rattle.pools.specs.Links.{Fits, sonAt, linkCell}
 use Rattle.pools.specs.Sound.{Leads}
 use Rattle.kinds.proofs.Order.{pair-ext}
 use Rattle.pools.proofs.Leads.{tree-within, leads-tree}
