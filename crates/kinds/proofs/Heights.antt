@@ -1,4 +1,5 @@
--- The stripe that x lies in, level by level: at each level one bit of x says on which side of the middle x lies.
+-- The stripe that x lies in, level by level: at each level one bit of x says on which side of the middle x lies. Assumed where they are needed:
+-- a level below, and for the root an x of 32 bits.
 use Prim.Native.Nat.{ℕ, suc, _+_, _*_, _-_, _/_, _%_, _^_, _≤_, _<_}
 use mathlib.Core.Path.{_≡_, sym, ap, _∙_, subst}
 use native.Mathlib.Omega.{arith}

@@ -1,4 +1,4 @@
--- The parts of a stripe whose ends can be added are such stripes.
+-- The parts of a stripe whose ends can be added (`Low`) are such stripes, and so is the root's. Nothing else is assumed.
 use Prim.Native.Nat.{ℕ}
 use mathlib.Core.Path.{_≡_, refl}
 use native.Mathlib.Omega.{arith}

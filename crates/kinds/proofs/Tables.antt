@@ -1,4 +1,5 @@
--- A table of refusals: a line that holds refuses, and what no line refuses is made. Each law is over any lines and any cells.
+-- A table of refusals: a line that holds refuses, and what no line refuses is made. Each law is over any lines and any cells. Where the first
+-- code decides, no line's code is 0 (`Coded`).
 use Prim.Native.Nat.{ℕ}
 use mathlib.Core.Path.{_≡_, refl, ap, _∙_}
 use mathlib.Core.Logic.{_≢_}

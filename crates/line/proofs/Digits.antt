@@ -1,4 +1,5 @@
--- Digits, read one after the other.
+-- Digits, read one after the other: a byte that is no digit ends the reading, and so does a number that grows too large, since more digits never
+-- make it smaller. Nothing is assumed of the word.
 use Prim.Native.Nat.{ℕ, suc, _+_, _*_, _-_, _≤_, _<_}
 use mathlib.Core.Path.{_≡_}
 use mathlib.Core.Bool.{true, false, _&&_}

@@ -1,4 +1,4 @@
--- The words of a line, and the numbers that they are.
+-- The words of a line, and the numbers that they are. Nothing is assumed of the line.
 use Prim.Native.Nat.{ℕ, suc, _+_, _-_, _≤_, _<_}
 use mathlib.Core.Path.{_≡_, refl, sym, ap, _∙_}
 use mathlib.Core.Bool.{Bool, true, false, true≢false}

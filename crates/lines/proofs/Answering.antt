@@ -1,4 +1,4 @@
--- What a line prints, a kind of line at a time.
+-- What a line prints, a kind of line at a time. It assumes room for what a line can print, and a sound pool where the call is made.
 use Prim.Native.Nat.{ℕ, _+_, _*_, _-_, _/_, _%_, _≤_, _<_}
 use mathlib.Core.Path.{_≡_, refl, sym, ap, _∙_}
 use mathlib.Core.Logic.{_≢_}

@@ -1,4 +1,4 @@
--- The marked cases hold: the played ones by working them out, those on lengths for all cells of such a length.
+-- The marked cases hold: the played ones by working them out, those on lengths for all cells of such a length. Nothing is assumed.
 use Prim.Native.Nat.{ℕ, _%_}
 use mathlib.Core.Path.{_≡_, refl, sym}
 use mathlib.Core.Bool.{Bool, true, false, _&&_}

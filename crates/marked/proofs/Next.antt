@@ -1,4 +1,5 @@
--- An accepted pair is found by each next question, and a deleted one by none: of all stored pairs it alone has its x.
+-- An accepted pair is found by each next question, and a deleted one by none: of all stored pairs it alone has its x. It assumes a program that
+-- keeps every promise; the x of an inserted pair is of 32 bits.
 use Prim.Native.Nat.{ℕ, zero, suc, _≤_, _<_}
 use mathlib.Core.Path.{_≡_, refl, sym, ap, _∙_, subst}
 use mathlib.Core.Logic.{_≢_, inl}

@@ -1,4 +1,5 @@
--- The loop over the stored pairs, a turn at a time: what the walk finds is the first of those still to be written.
+-- The loop over the stored pairs, a turn at a time: what the walk finds is the first of those still to be written. It assumes a sound pool whose
+-- cells are of 32 bits.
 use Prim.Native.Nat.{ℕ, zero, suc, _+_, _*_, _≤_, _<_}
 use mathlib.Core.Path.{_≡_, refl, sym, ap, _∙_}
 use mathlib.Core.Logic.{⊎-elim}

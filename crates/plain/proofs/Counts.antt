@@ -1,4 +1,4 @@
--- What a list weighs does not depend on its order, where the x differ; and so for how many of its pairs pass a test.
+-- What a list weighs does not depend on its order, where the x differ; and so for how many of its pairs pass a test. Nothing else is assumed.
 use Prim.Native.Nat.{ℕ, _+_}
 use mathlib.Core.Path.{_≡_, refl, sym, ap, _∙_}
 use mathlib.Core.Logic.{_≢_, ⊎-elim}

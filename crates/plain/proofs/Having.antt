@@ -1,4 +1,4 @@
--- The tests on a plain list, and membership.
+-- The tests on a plain list, and membership: each test is true exactly where a member is what it looks for. Nothing is assumed of the list.
 use Prim.Native.Nat.{ℕ}
 use mathlib.Core.Path.{_≡_, refl, sym, ap, _∙_}
 use mathlib.Core.Logic.{⊎-elim}

@@ -8,7 +8,7 @@ use borrow.Author.Tests.{not-false}
 use lib.ListN.{length, length-take}
 use Rattle.kinds.specs.declared.Answer.{Answer}
 use Rattle.kinds.specs.declared.Limits.{Limits}
-use Rattle.kinds.specs.Answer.{five, refused}
+use Rattle.kinds.specs.Answer.{refused}
 use Rattle.kinds.specs.Making.{listedBy}
 use Rattle.kinds.specs.Promise.{Line, Result, Promise, byLines, given}
 use Rattle.kinds.proofs.Tables.{NoLine}
@@ -29,7 +29,7 @@ use Rattle.pools.proofs.InTree.{tree-well}
 use Rattle.sound.specs.Promises.{behindCheck}
 use Rattle.promises.specs.Promises.{smallestXAsked, largestXAsked, smallestYAsked, listingAsked}
 use Rattle.promises.proofs.Asked.{matches-count}
-use Rattle.pool.specs.Showing.{FewVisits}
+use Rattle.pool.specs.Showing.{VisitsWithin, FewVisits}
 
 -- what a table answers has a property that refusals have, if what it makes has it where no line holds
 table-has : (P : Answer → Type 0) → ((k : ℕ) → P (refused k)) → (ls : List Line) (c out : List ℕ) (made : Result) → (NoLine ls → P (made .answer))
@@ -43,10 +43,6 @@ table-has P r (l ∷ ls) c out made h =
 pub entry-has : (P : Answer → Type 0) → ((k : ℕ) → P (refused k)) → (Q : Promise) (c out : List ℕ) → (Sound c → P (Q .made .answer))
     → P (given (behindCheck c Q) c out .answer)
 entry-has P r Q c out h = table-has P r (behindCheck c Q .lines) c out (Q .made) (λ n. h (test-sound c (not-false _ (n .1 .0))))
-
--- at most so many visits are reported
-abbrev pub VisitsWithin : ℕ → Answer → Type 0
-VisitsWithin n a = five a .visits ≤ n
 
 refused-within : (n k : ℕ) → VisitsWithin n (refused k)
 refused-within n k = rw (refused-numbers k) (omega arith)

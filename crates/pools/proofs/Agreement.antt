@@ -1,4 +1,5 @@
--- Pools that agree on every slot, the header being slot 0, are equal, and a link leads to the same tree where they agree on its slots.
+-- Pools that agree on every slot, the header being slot 0, are equal, and a link leads to the same tree where they agree on its slots. It
+-- assumes pools of one length; what is written and then read assumes that the slot's cells are there.
 use Prim.Native.Nat.{ℕ, zero, suc, _+_, _*_, _-_, _/_, _≤_, _<_}
 use mathlib.Core.Path.{_≡_, refl, sym, ap, _∙_, subst}
 use mathlib.Core.Logic.{_≢_, ⊎-elim}

@@ -1,4 +1,5 @@
--- A change writes the header and the slots of one tree: when the pool is sound afterwards, and when a second change takes the first back.
+-- A change writes the header and the slots of one tree: when the pool is sound afterwards, and when a second change takes the first back. It
+-- assumes slots that differ and are the pool's; and, for a sound pool, a well-formed tree and a chain of all the other slots.
 use Prim.Native.Nat.{ℕ, _+_}
 use mathlib.Core.Path.{_≡_, refl, sym, ap, _∙_}
 use mathlib.Core.Logic.{⊎-elim}

@@ -1,4 +1,4 @@
--- The test of a pool is true exactly where the pool is sound.
+-- The test of a pool is true exactly where the pool is sound. Nothing is assumed of the cells.
 use Prim.Native.Nat.{ℕ, zero, suc, _+_, _*_, _-_, _≤_}
 use mathlib.Core.Path.{_≡_, refl, ap}
 use mathlib.Core.Logic.{_↔_}

@@ -1,4 +1,5 @@
--- The cells after a deletion: a sound pool whose tree is what is left, with the slot that was given up first in the chain.
+-- The cells after a deletion: a sound pool whose tree is what is left, with the slot that was given up first in the chain. It assumes a sound
+-- pool whose tree has the pair.
 use Prim.Native.Nat.{ℕ, _+_, _-_}
 use mathlib.Core.Path.{_≡_, _∙_}
 use mathlib.Core.Logic.{_≢_, _↔_, _⊎_, inl, inr, ⊎-elim}

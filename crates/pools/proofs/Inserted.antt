@@ -1,4 +1,5 @@
--- The cells after an insertion: a sound pool whose tree is the one that the pair went down into.
+-- The cells after an insertion: a sound pool whose tree is the one that the pair went down into. It assumes a sound pool with a free slot, and
+-- an x of 32 bits that is new.
 use Prim.Native.Nat.{ℕ, _+_, _<_}
 use mathlib.Core.Path.{_≡_, refl, ap}
 use mathlib.Core.Logic.{_≢_, _↔_, _⊎_, inl, inr, ⊎-elim}

@@ -1,4 +1,4 @@
--- A tree laid out in its slots is what its top then leads to, and nothing else changes.
+-- A tree laid out in its slots is what its top then leads to, and nothing else changes. It assumes slots that differ and are the pool's.
 use Prim.Native.Nat.{ℕ}
 use mathlib.Core.Path.{_≡_, refl, _∙_}
 use mathlib.Core.List.{List}

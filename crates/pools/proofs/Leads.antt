@@ -1,4 +1,4 @@
--- The tree that a link leads to is the one that is read from the cells, and no other.
+-- The tree that a link leads to is the one that is read from the cells, and no other. It assumes that the tree has no more levels than are read.
 use Prim.Native.Nat.{ℕ, zero, suc, _-_, _^_, _≤_, _<_}
 use mathlib.Core.Path.{_≡_, refl, _∙_}
 use mathlib.Core.Bool.{Bool, true, false}

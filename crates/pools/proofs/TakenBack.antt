@@ -1,4 +1,5 @@
--- Taking back restores every cell: a deletion takes an insertion back, an insertion a deletion.
+-- Taking back restores every cell: a deletion takes an insertion back, an insertion a deletion. It assumes a sound pool; for an insertion a free
+-- slot and an x of 32 bits that is new, for a deletion that the pair is stored.
 use Prim.Native.Nat.{ℕ, _<_}
 use mathlib.Core.Path.{_≡_, refl, ap}
 use mathlib.Core.Logic.{_≢_, inl, ⊎-elim}

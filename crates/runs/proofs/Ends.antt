@@ -1,4 +1,5 @@
--- How each call fits its fellow over a plain list with the same pairs.
+-- How each call fits its fellow over a plain list with the same pairs. It assumes a sound pool and a plain list with the same pairs (`Same`);
+-- the x of an inserted pair is of 32 bits.
 use Prim.Native.Nat.{ℕ, _<_, _*_, _+_}
 use mathlib.Core.Path.{_≡_, refl, sym, ap, _∙_}
 use mathlib.Core.Logic.{inl, inr, ⊎-elim}

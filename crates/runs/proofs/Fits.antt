@@ -1,5 +1,5 @@
--- A promise fits a call over a plain list where they have the same lines and the same outcome, and, where no line holds, leave the same pairs
--- and write alike. Then the call ends alike over both: shown once for all calls, and each call only says how it fits.
+-- A promise fits a call over a plain list where both have the same lines and outcome and, where no line holds, leave the same pairs and write
+-- alike; so the call ends alike over both, shown once for all calls. It assumes a sound pool and a list with the same pairs (`Same`).
 use Prim.Native.Nat.{ℕ}
 use mathlib.Core.Path.{_≡_, refl}
 use mathlib.Core.List.{List, [], _∷_}

@@ -1,6 +1,5 @@
--- Any run of any calls, taken back by what was answered: each reversal is accepted, and every cell is as at the start, or as the last set up left
--- it. One call at a time: what it
--- leaves is taken back by its reversal, or is what it found. Assumed: the x of an inserted pair is of 32 bits.
+-- Any run of any calls, taken back by what was answered: each reversal is accepted, and every cell is as at the start or as the last set up left
+-- it. One call at a time: its reversal takes it back, or it changed nothing. It assumes that the x of an inserted pair is of 32 bits.
 use Prim.Native.Nat.{ℕ, _<_}
 use mathlib.Core.Path.{_≡_, refl, ap, _∙_}
 use mathlib.Core.Logic.{_≢_}

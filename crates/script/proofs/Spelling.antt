@@ -1,4 +1,4 @@
--- What can be asked has exactly one line.
+-- What can be asked has exactly one line. It assumes numbers of 32 bits; a line that is read has no others.
 use Prim.Native.Nat.{ℕ, _*_, _≤_}
 use mathlib.Core.Path.{_≡_, refl, sym, ap, _∙_}
 use mathlib.Core.Bool.{true}

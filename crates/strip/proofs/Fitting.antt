@@ -1,5 +1,5 @@
 -- The code that the tests of the numbers give is that of the first line that holds; and numbers that no line refuses are at most 65,535, so that
--- what is made of them is of 32 bits.
+-- what is made of them is of 32 bits. Nothing else is assumed.
 use Prim.Native.Nat.{ℕ, _≤_, _<_}
 use mathlib.Core.Path.{_≡_, sym, _∙_}
 use mathlib.Core.Bool.{Bool, true, false, _||_}

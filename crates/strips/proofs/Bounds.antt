@@ -9,8 +9,8 @@ use Rattle.pools.specs.Cells.{treeOf}
 use Rattle.pools.proofs.InTree.{tree-well}
 use Rattle.sound.specs.Promises.{behindCheck}
 use Rattle.promises.specs.Promises.{firstToEnd, lastToEnd, earliestStart, listingAsked, listCovers, listMeets, listContains}
-use Rattle.pool.specs.Showing.{FewVisits}
-use Rattle.pool.proofs.Bounds.{VisitsWithin, entry-bound, entry-few, listed-few}
+use Rattle.pool.specs.Showing.{VisitsWithin, FewVisits}
+use Rattle.pool.proofs.Bounds.{entry-bound, entry-few, listed-few}
 
 module _ (c : List ℕ) where
   -- law: the questions for one strip

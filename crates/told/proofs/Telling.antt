@@ -1,4 +1,4 @@
--- A call that tells an answer tells the promised one, since the answer is the promised one.
+-- A call that tells an answer tells the promised one, since the answer is the promised one. Nothing else is assumed.
 use Prim.Native.Nat.{ℕ}
 use mathlib.Core.Path.{_≡_, ap, sym, _∙_}
 use mathlib.Core.List.{List, [], _∷_}

@@ -1,4 +1,5 @@
--- Taking back, slots included: what was put in is taken out, what was taken out is put in.
+-- Taking back, slots included: what was put in is taken out, what was taken out is put in. It assumes a well-formed tree, and of what is put in
+-- that its x lies in the stripe and is new.
 use Prim.Native.Nat.{ℕ}
 use mathlib.Core.Path.{_≡_}
 use Rattle.kinds.specs.declared.Pair.{Pair}

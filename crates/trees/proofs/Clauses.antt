@@ -1,4 +1,5 @@
--- A tree is well formed exactly where the clauses of a sound pool hold of it (that its x differ is in Members, its levels in Levels).
+-- A tree is well formed exactly where the clauses of a sound pool hold of it (that its x differ is in Members, its levels in Levels). Nothing
+-- else is assumed.
 use Prim.Native.Nat.{ℕ}
 use Rattle.kinds.specs.declared.Pair.{Pair}
 use Rattle.kinds.specs.Stripe.{Stripe, In, leftPart, rightPart}

@@ -1,5 +1,5 @@
--- A pair that goes down: the tree stays well formed and has one member more.
--- `Down` is the graph of `goDown`; every law is an induction over it, with no test in it.
+-- A pair that goes down: the tree stays well formed and has one member more. It assumes a well-formed tree, and an x that lies in the stripe and
+-- is new. `Down` is the graph of `goDown`; every law is an induction over it, with no test in it.
 use Prim.Native.Nat.{ℕ, _≤_, _<_}
 use mathlib.Core.Path.{_≡_, refl, sym, ap, subst}
 use mathlib.Core.Logic.{_≢_, _↔_, _⊎_, inl, inr, ⊎-elim}

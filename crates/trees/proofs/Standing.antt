@@ -1,4 +1,5 @@
--- Which slots a tree has: a pair that goes down adds the one given, and no slot then stands twice.
+-- Which slots a tree has: a pair that goes down adds the one given, and no slot then stands twice. That assumes that none stood twice before,
+-- and that the one given did not stand there.
 use Prim.Native.Nat.{ℕ, _+_}
 use mathlib.Core.Path.{_≡_, refl, sym, subst}
 use mathlib.Core.Logic.{_≢_, _⊎_, inl, inr, ⊎-elim}

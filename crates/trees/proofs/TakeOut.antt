@@ -1,5 +1,5 @@
--- A hole that is filled: the tree stays well formed and has one member less.
--- `Filled` and `Taken` are the graphs of `fill` and `takeOut`; every law is an induction over them.
+-- A hole that is filled: the tree stays well formed and has one member less. It assumes a well-formed tree that has the pair. `Filled` and
+-- `Taken` are the graphs of `fill` and `takeOut`; every law is an induction over them.
 use Prim.Native.Nat.{ℕ, _≤_, _<_}
 use mathlib.Core.Path.{_≡_, refl, sym, ap, subst}
 use mathlib.Core.Logic.{_≢_, _↔_, _⊎_, inl, inr, ⊎-elim}

@@ -1,5 +1,5 @@
--- Each walk finds what a scan of the tree's members finds.
--- The slot's rule gives the closest of its pair and its sons' best, whatever the sons answer; each walk's induction only plugs in.
+-- Each walk finds what a scan of the tree's members finds. The slot's rule gives the closest of its pair and its sons' best, whatever the sons
+-- answer; each walk's induction only plugs in. It assumes a well-formed tree.
 use Prim.Native.Nat.{ℕ, _<_}
 use mathlib.Core.Path.{_≡_, refl, sym, ap, _∙_}
 use mathlib.Core.Bool.{Bool, true, false, not, _&&_, _||_}

@@ -1,5 +1,5 @@
--- At the root a listing makes at most 127 visits, and two more for each pair listed.
--- A slot whose x is in range either stops the walk or matches, and a match pays for both sons.
+-- At the root a listing makes at most 127 visits, and two more for each pair listed. A slot whose x is in range either stops the walk or
+-- matches, and a match pays for both sons. It assumes a well-formed tree.
 use Prim.Native.Nat.{ℕ, zero, suc, _+_, _*_, _≤_}
 use mathlib.Core.Path.{_≡_, refl}
 use mathlib.Core.Bool.{Bool, true, false, cond}

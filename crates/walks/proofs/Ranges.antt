@@ -1,5 +1,5 @@
--- How a range of x lies over a tree's stripes, level by level, and how many slots that lets a walk visit.
--- A walk branches at most once above stripes of which the range covers an end; in those, one of the two sons is covered whole.
+-- How a range of x lies over a tree's stripes, level by level, and how many slots that lets a walk visit. A walk branches at most once above
+-- stripes of which the range covers an end; in those, one of the two sons is covered whole. It assumes a well-formed tree.
 use Prim.Native.Nat.{ℕ, zero, suc, _+_, _≤_}
 use mathlib.Core.Path.{_≡_, refl}
 use mathlib.Core.Bool.{Bool, true, false, _&&_}

@@ -1,4 +1,4 @@
--- At the root no search makes more than 127 visits. Shown once for all 32 levels.
+-- At the root no search makes more than 127 visits. Shown once for all 32 levels. It assumes a well-formed tree.
 use Prim.Native.Nat.{ℕ, zero, suc, _+_, _≤_}
 use mathlib.Core.Path.{_≡_, refl}
 use mathlib.Core.Bool.{Bool, true, false}

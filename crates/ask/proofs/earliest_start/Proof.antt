@@ -1,4 +1,4 @@
--- The code of the slots refuses; else the walk answers, within the x of the limits of last.
+-- The code of the slots refuses; else the walk answers, within the x of the limits of last. It assumes a sound pool.
 use mathlib.Core.Path.{sym, _∙_}
 use Rattle.plain.specs.Strips.{plainEarliest}
 use Rattle.strip.proofs.Fitting.{slots-small}

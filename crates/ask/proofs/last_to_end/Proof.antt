@@ -1,4 +1,4 @@
--- The code of the slots refuses; else the walk answers, with the limits of last.
+-- The code of the slots refuses; else the walk answers, with the limits of last. It assumes a sound pool.
 use mathlib.Core.Path.{sym, _∙_}
 use Rattle.plain.specs.Strips.{plainLast}
 use Rattle.strip.proofs.Fitting.{slots-small}

@@ -1,4 +1,4 @@
--- Backwards limits are refused; else the walk answers.
+-- Backwards limits are refused; else the walk answers. It assumes a sound pool.
 use Rattle.promises.proofs.Ways.{limits-backwards, limits-pass}
 use Rattle.plain.specs.Books.{plainSmallestY}
 use Rattle.promises.specs.Promises.{smallestYAsked}

@@ -1,4 +1,4 @@
--- The code of the strip's numbers refuses; else its pair is inserted.
+-- The code of the strip's numbers refuses; else its pair is inserted. It assumes a sound pool.
 use mathlib.Core.Path.{sym, _∙_}
 use Rattle.strip.proofs.Fitting.{strip-parts-small}
 use Rattle.change.proofs.Changed.{open-refused, open-made}

@@ -1,4 +1,4 @@
--- The third word is the last, or there are too many.
+-- The third word is the last, or there are too many. Nothing is assumed.
 use mathlib.Core.Path.{refl, sym, _∙_}
 use lib.Seq.{length-take-le}
 use mathlib.Core.List.{[], _∷_}

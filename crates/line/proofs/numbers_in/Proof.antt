@@ -1,4 +1,4 @@
--- The first word, and those behind it.
+-- The first word, and those behind it. Nothing is assumed.
 use mathlib.Core.Path.{sym, _∙_}
 use Prim.Native.Nat.{_+_}
 use lib.Seq.{length-take-le}

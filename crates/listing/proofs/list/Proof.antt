@@ -1,4 +1,4 @@
--- The listing from the root.
+-- The listing from the root. It assumes a sound pool.
 use native.Mathlib.Omega.{arith}
 use Rattle.listing.proofs.ListTop.{from-root, room-fits, count-fits, list-full, list-whole}
 use borrow.Author.Needs.{needs}

@@ -1,4 +1,4 @@
--- The invariant: what is still to be written, written, gives what was to be written at first.
+-- The invariant: what is still to be written, written, gives what was to be written at first. It assumes a sound pool, and room for the book.
 use mathlib.Core.Path.{refl}
 use Rattle.pages.proofs.Next.{toWrite, Turn, nothing-left, next-pair, one-less, next-last, first-turn, all-written, room-here, next-turn, last-written}
 use borrow.Author.Needs.{needs}

@@ -1,4 +1,4 @@
--- The test picks the part.
+-- The test picks the part. It assumes that the stripe's ends can be added (`Low`).
 use mathlib.Core.Path.{sym, _∙_}
 use Rattle.kinds.specs.Heights.{partOf}
 use borrow.Author.Needs.{needs}

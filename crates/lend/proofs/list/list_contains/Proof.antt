@@ -1,4 +1,4 @@
--- The code of the slots refuses; else the walk lists, with the limits of contains.
+-- The code of the slots refuses; else the walk lists, with the limits of contains. It assumes a sound pool.
 use mathlib.Core.Path.{sym, _∙_}
 use Rattle.plain.specs.Books.{plainListing}
 use Rattle.plain.specs.Strips.{plainContains}

@@ -1,4 +1,4 @@
--- The code of the slot refuses; else the walk lists, with the limits of covers.
+-- The code of the slot refuses; else the walk lists, with the limits of covers. It assumes a sound pool.
 use mathlib.Core.Path.{sym, _∙_}
 use Rattle.plain.specs.Books.{plainListing}
 use Rattle.plain.specs.Strips.{plainCovers}

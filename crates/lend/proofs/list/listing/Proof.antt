@@ -1,4 +1,4 @@
--- Backwards limits are refused; else the walk lists.
+-- Backwards limits are refused; else the walk lists. It assumes a sound pool.
 use Rattle.promises.proofs.Ways.{limits-backwards, limits-pass}
 use Rattle.plain.specs.Books.{plainListing}
 use Rattle.promises.specs.Promises.{listingAsked}
