@@ -2,7 +2,8 @@
 use kinds::Pair;
 ghost use mathlib.Core.Path.{_≡_};
 ghost use lib.ListN.{set};
-ghost use Rattle.pools.specs.Cells.{Fits, markOf, rootOf, freeOf, countOf, pairAt, leftAt, rightAt, sonAt, linkCell, putPair, putLinks, putFree, putHeader};
+ghost use Rattle.pools.specs.Cells.{markOf, rootOf, freeOf, countOf, pairAt, leftAt, rightAt, putPair, putLinks, putFree, putHeader};
+ghost use Rattle.pools.specs.Links.{Fits, sonAt, linkCell};
 
 pub const PER_SLOT: usize = 4;
 

@@ -8,7 +8,8 @@ use lib.Dec.{leb, eqb}
 use lib.ListN.{length}
 use borrow.Author.Tests.{eq-eqb, ne-eqb, le-leb, lt-leb, leb-true}
 use Rattle.kinds.specs.declared.Pair.{Pair}
-use Rattle.pools.specs.Cells.{perSlot, slotsOf, freeOf, countOf, Fits, pairAt, leftAt, rightAt, freeMark, isFree}
+use Rattle.pools.specs.Cells.{perSlot, slotsOf, freeOf, countOf, pairAt, leftAt, rightAt, freeMark, isFree}
+use Rattle.pools.specs.Links.{Fits}
 use Rattle.pools.specs.Test.{freeFine, chainFine}
 use Rattle.kinds.proofs.Tests.{all-three, and-false}
 use Rattle.pools.proofs.Leads.{back}
@@ -16,9 +17,9 @@ use Rattle.kinds.specs.Codes.{done, unsound}
 use Rattle.chain.specs.Judged.{verdict, restVerdict}
 
 module _ (c : List ℕ) (s : ℕ) where
-  pub no-slot : s ≡ 0 → false ≡ freeFine c s
+  pub zero-not-free : s ≡ 0 → false ≡ freeFine c s
   unfolding freeFine
-  no-slot h = rw (lt-leb 1 s (omega arith))
+  zero-not-free h = rw (lt-leb 1 s (omega arith))
 
   pub free-fits : (b : Bool) → b ≡ freeFine c s → b ≡ true → Fits c s
   unfolding freeFine
@@ -29,9 +30,9 @@ module _ (c : List ℕ) (s : ℕ) where
       omega arith
 
   module _ (ne : s ≡ 0 → ⊥) where
-    pub too-far : length c / perSlot ≤ s → false ≡ freeFine c s
+    pub beyond-pool : length c / perSlot ≤ s → false ≡ freeFine c s
     unfolding freeFine
-    too-far h = rw (lt-leb s (slotsOf c) (omega arith), and-false (leb 1 s) false refl)
+    beyond-pool h = rw (lt-leb s (slotsOf c) (omega arith), and-false (leb 1 s) false refl)
 
     module _ (h : s < length c / perSlot) (p : Pair) (e : p ≡ pairAt c s) where
       pub some-x : (p .x ≡ 0 → ⊥) → false ≡ freeFine c s
@@ -53,17 +54,17 @@ module _ (c : List ℕ) (n s : ℕ) where
   unfolding chainFine
   chain-ends z h = rw (z, eq-eqb s 0 h)
 
-  pub too-long : n ≡ 0 → (s ≡ 0 → ⊥) → unsound ≡ verdict (chainFine c n s)
+  pub chain-too-long : n ≡ 0 → (s ≡ 0 → ⊥) → unsound ≡ verdict (chainFine c n s)
   unfolding chainFine
-  too-long z h = rw (z, ne-eqb s 0 h)
+  chain-too-long z h = rw (z, ne-eqb s 0 h)
 
   step : (k : ℕ) → n ≡ suc k → (b : Bool) → freeFine c s ≡ b → (b && chainFine c k (rightAt c s)) ≡ chainFine c n s
   unfolding chainFine
   step k e b h = rw (e, h)
 
   module _ (b : Bool) (d : n ≡ 0 → ⊥) (e : b ≡ freeFine c s) where
-    pub goes-on : (s′ : ℕ) → b ≡ true → s′ ≡ rightAt c s → chainFine c (n - 1) s′ ≡ chainFine c n s
-    goes-on s′ t f = rw f (step (n - 1) (sym (back n d)) true (sym e ∙ t))
+    pub chain-goes-on : (s′ : ℕ) → b ≡ true → s′ ≡ rightAt c s → chainFine c (n - 1) s′ ≡ chainFine c n s
+    chain-goes-on s′ t f = rw f (step (n - 1) (sym (back n d)) true (sym e ∙ t))
 
     pub breaks : b ≡ false → unsound ≡ verdict (chainFine c n s)
     breaks f = rw (← (step (n - 1) (sym (back n d)) false (sym e ∙ f)))
@@ -75,14 +76,14 @@ module _ (c : List ℕ) (n count : ℕ) (ec : count ≡ countOf c) where
   other-count h = rw (ne-eqb n (countOf c) (rw ec at h))
 
   module _ (en : n ≡ count) where
-    pub too-many : slotsOf c < count → unsound ≡ restVerdict c n
+    pub count-too-large : slotsOf c < count → unsound ≡ restVerdict c n
     unfolding restVerdict
-    too-many h =
+    count-too-large h =
         let h′ : slotsOf c < countOf c = rw ec at h in
         rw (eq-eqb n (countOf c) (en ∙ ec), lt-leb (countOf c) (slotsOf c) h′)
 
-    pub the-rest : (v : ℕ) (first : ℕ) → count ≤ slotsOf c → first ≡ freeOf c → v ≡ verdict (chainFine c (slotsOf c - count) first) → v ≡ restVerdict c n
+    pub rest-judged : (v : ℕ) (first : ℕ) → count ≤ slotsOf c → first ≡ freeOf c → v ≡ verdict (chainFine c (slotsOf c - count) first) → v ≡ restVerdict c n
     unfolding restVerdict
-    the-rest v first h f e =
+    rest-judged v first h f e =
         let h′ : countOf c ≤ slotsOf c = rw ec at h in
         rw (eq-eqb n (countOf c) (en ∙ ec), le-leb (countOf c) (slotsOf c) h′) (rw (ec, f) at e)

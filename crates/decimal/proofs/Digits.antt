@@ -1,4 +1,5 @@
--- Digits, read one after the other.
+-- Digits, read one after the other: a byte that is no digit ends the reading, and so does a number that grows too large, since more digits never
+-- make it smaller. Nothing is assumed of the word.
 use Prim.Native.Nat.{ℕ, suc, _+_, _*_, _-_, _≤_, _<_}
 use mathlib.Core.Path.{_≡_}
 use mathlib.Core.Bool.{true, false, _&&_}
@@ -11,7 +12,7 @@ use borrow.Author.Tests.{ltb-true, ltb-false, leb-true, lt-ltb, le-ltb, le-leb, 
 use Rattle.kinds.proofs.Tests.{on, both, and-false}
 use Rattle.decimal.specs.declared.Number.the-variants.{Is, Not}
 use Rattle.decimal.specs.Decimal.{isDigit, allDigits, valueFrom, leadingZero, isNumber}
-use Rattle.decimal.specs.Reading.{numberIf, digitsOf, digitsFrom, numberOf}
+use Rattle.decimal.specs.Reading.{numberIf, digitsOf, digitsFrom, numberIn}
 
 -- the largest number
 abbrev pub most : ℕ
@@ -85,8 +86,8 @@ pub digit-more : (n b d : ℕ) → n ≤ most → isDigit b ≡ true → d ≡ b
 digit-more n b d h t e = let k = digit-range b t in omega arith
 
 -- law: an empty word is no number
-pub empty-word : (w : List ℕ) → length w ≡ 0 → Not ≡ numberOf w
-unfolding numberOf isNumber
+pub empty-word : (w : List ℕ) → length w ≡ 0 → Not ≡ numberIn w
+unfolding numberIn isNumber
 empty-word w e = rw e
 
 module _ (w : List ℕ) (ne : length w ≡ 0 → ⊥) where
@@ -94,11 +95,11 @@ module _ (w : List ℕ) (ne : length w ≡ 0 → ⊥) where
   some = le-leb 1 (length w) (omega (arith, ne))
 
   -- law: nor is one with a leading zero
-  pub zero-led : leadingZero w ≡ true → Not ≡ numberOf w
-  unfolding numberOf isNumber
+  pub zero-led : leadingZero w ≡ true → Not ≡ numberIn w
+  unfolding numberIn isNumber
   zero-led t = simp (some, t)
 
   -- law: any other is one if its digits are
-  pub not-zero-led : leadingZero w ≡ false → digitsOf w ≡ numberOf w
-  unfolding numberOf isNumber digitsOf
+  pub not-zero-led : leadingZero w ≡ false → digitsOf w ≡ numberIn w
+  unfolding numberIn isNumber digitsOf
   not-zero-led f = simp (some, f)

@@ -24,5 +24,5 @@ digitsFrom n (b ∷ bs) =
     cond (isDigit b) (cond (ltb 4294967295 m) Not rest) Not
 
 -- the number that a word is, if it is one
-unfoldable pub numberOf : List ℕ → Number
-numberOf w = numberIf (isNumber w) (value w)
+unfoldable pub numberIn : List ℕ → Number
+numberIn w = numberIf (isNumber w) (value w)

@@ -1,12 +1,12 @@
 // A word as a decimal number of 32 bits.
 ghost use mathlib.Core.Path.{_≡_};
 ghost use Rattle.decimal.specs.Decimal.{isDigit, leadingZero};
-ghost use Rattle.decimal.specs.Reading.{digitsOf, numberOf};
+ghost use Rattle.decimal.specs.Reading.{digitsOf, numberIn};
 
 const ZERO: u8 = 48;
 
-// The largest number.
-const LARGEST: u64 = 4294967295;
+// The largest number of 32 bits.
+const LARGEST_32: u64 = 4294967295;
 
 // Whether a word is a number, and which.
 pub enum Number {
@@ -52,7 +52,7 @@ fn digits_in(word: &[u8]) -> Number
             return Number::Not;
         }
         sum = sum * 10 + wide(b - ZERO);
-        if LARGEST < sum {
+        if LARGEST_32 < sum {
             return Number::Not;
         }
         i += 1;
@@ -62,7 +62,7 @@ fn digits_in(word: &[u8]) -> Number
 
 // The number that a word is, if it is one: no leading zero but 0 itself, and no more than the largest.
 pub fn number_in(word: &[u8]) -> Number
-    ensures { λ r. ⌜ r ≡ numberOf (now (word .entry)) ⌝ }
+    ensures { λ r. ⌜ r ≡ numberIn (now (word .entry)) ⌝ }
 {
     if word.len() == 0 {
         return Number::Not;

@@ -10,10 +10,13 @@ use lib.ListN.{getD}
 use lib.Seq.{set-getD}
 use Rattle.kinds.specs.declared.Pair.{Pair}
 use Rattle.kinds.specs.Pairs.{beats}
-use Rattle.kinds.specs.Stripe.{Stripe, In, stripeAt}
-use Rattle.trees.specs.Tree.{Tree, All, Under, Well, Stands, New, itself}
+use Rattle.kinds.specs.Stripe.{Stripe, In}
+use Rattle.kinds.specs.Heights.{stripeAt}
+use Rattle.trees.specs.Tree.{Tree, All, Under, Well, itself}
+use Rattle.trees.specs.Standing.{Stands, New}
 use Rattle.trees.specs.Changes.{goDown}
-use Rattle.pools.specs.Cells.{perSlot, Fits, freeOf, pairAt, rightAt, putPair, linkCell}
+use Rattle.pools.specs.Cells.{perSlot, freeOf, pairAt, rightAt, putPair}
+use Rattle.pools.specs.Links.{Fits, linkCell}
 use Rattle.kinds.proofs.Tests.{on}
 use Rattle.kinds.proofs.Heights.{in-at, same-at}
 use Rattle.trees.proofs.Trees.{under-new}
@@ -25,7 +28,7 @@ use Rattle.way.specs.Way.{treeThere}
 use Rattle.way.proofs.Links.{link-slot}
 use Rattle.way.proofs.Sides.{forkOn, sonTree, sideOf, part-side, inside-slot, level-below, Outside, Well-on, well-on, new-near}
 use Rattle.way.proofs.Replacing.{Paired, paired-put, there-on, son-distinct, outside-on, son-tree, son-place, replaced-up}
-use Rattle.down.specs.Down.{Going, Carried, stays, goesOn, Settled, Room, taken}
+use Rattle.down.specs.Down.{Going, Carried, stays, goesOn, Settled, Room, freeTaken}
 use Rattle.down.proofs.Taking.{taken-first, taken-replaced}
 
 -- where two pairs meet, as the code settles it
@@ -67,7 +70,7 @@ module _ {c : List ℕ} {k cell : ℕ} {p : Pair} (g : Going c k cell p) where
   going-fits ne = leads-fits c (g .place .leads) ne
 
   -- law: at an empty place the free slot is taken
-  pub put-there : {d : List ℕ} → getD c cell 0 ≡ 0 → d ≡ taken c cell p → Carried c k cell p d
+  pub put-there : {d : List ℕ} → getD c cell 0 ≡ 0 → d ≡ freeTaken c cell p → Carried c k cell p d
   unfolding goDown
   put-there z e = rw e (record {
     place = rw (tree-none c (suc k) (getD c cell 0) z) (taken-replaced p going-room (g .elsewhere) (g .place .other));
@@ -176,8 +179,8 @@ module _ {c : List ℕ} {k cell : ℕ} {p : Pair} (g : Going c k cell p) (ne : g
   pub some-left : 1 ≤ k
   some-left = let h = deep g ne in omega arith
 
-  pub one-less : {t : ℕ} → k ≡ t → k - 1 < t
-  one-less e = let h = deep g ne in omega arith
+  pub level-less : {t : ℕ} → k ≡ t → k - 1 < t
+  level-less e = let h = deep g ne in omega arith
 
   module _ {d : List ℕ} {r : Pair} (h : Settled c (getD c cell 0) p d r) {left : Bool} (el : left ≡ sideOf k (r .x)) {son : ℕ} (es : son ≡ linkCell (getD c cell 0) left) where
     goes-by : (j : ℕ) → k ≡ suc j → Going d j son r

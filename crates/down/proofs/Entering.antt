@@ -12,9 +12,9 @@ use Rattle.pools.specs.Laid.{inserted}
 use Rattle.kinds.proofs.Heights.{root-at}
 use Rattle.pools.proofs.Decided.{sound-well, sound-tree}
 use Rattle.pools.proofs.Agreement.{leads-slot}
-use Rattle.pools.proofs.Inserted.{grown, taken-first, taken-out, inserted-one}
+use Rattle.pools.proofs.Inserted.{grown, free-first, taken-out, inserted-one}
 use Rattle.way.specs.Way.{Replaced}
-use Rattle.way.proofs.Counting.{counted}
+use Rattle.way.proofs.Counting.{count-written}
 use Rattle.way.proofs.Ways.{root-place}
 use Rattle.down.specs.Down.{Enters, Going, Carried}
 
@@ -29,7 +29,7 @@ module _ {c : List ℕ} {p : Pair} (n : Enters c p) (b : p .x < 4294967296) wher
         place = root-place s;
         well = rw (root-at (p .x) b, t) (sound-well c s);
         new = rw t (n .new);
-        free = taken-first s (n .room) .slot;
+        free = free-first s (n .room) .slot;
         out = rw t (taken-out s (n .room));
         elsewhere = λ e. n .room (sym e);
       }
@@ -39,4 +39,4 @@ module _ {c : List ℕ} {p : Pair} (n : Enters c p) (b : p .x < 4294967296) wher
   entered {d} h =
       let s = n .sound in
       let R : Replaced c 1 (grown s p) (grown s p) d = rw (root-at (p .x) b, sound-tree c s) at (h .place) in
-      inserted-one s p (n .new) b (n .room) (counted s R (λ m. omega (arith, leads-slot (grown s p) (R .leads) m .some)) (h .first) (countOf c + 1))
+      inserted-one s p (n .new) b (n .room) (count-written s R (λ m. omega (arith, leads-slot (grown s p) (R .leads) m .some)) (h .first) (countOf c + 1))

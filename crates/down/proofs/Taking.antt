@@ -8,18 +8,19 @@ use native.Mathlib.Omega.{arith}
 use lib.ListN.{length, getD, set, length-set}
 use lib.Seq.{getD-set-same, getD-set-other}
 use Rattle.kinds.specs.declared.Pair.{Pair}
-use Rattle.trees.specs.Tree.{none, fork, at-top}
+use Rattle.trees.specs.Tree.{none, fork}
+use Rattle.trees.specs.Standing.{at-top}
 use Rattle.pools.specs.Cells.{perSlot, freeOf, rightAt, putPair, putLinks}
 use Rattle.pools.specs.Sound.{nowhere}
-use Rattle.pools.proofs.Agreement.{Holds, holds-agree, same-slot, slot-as, slot-fits, putSlot, slot-wrote, slot-read}
+use Rattle.pools.proofs.Agreement.{SlotHolds, holds-agree, same-slot, slot-as, slot-fits, putSlot, slot-wrote, slot-read}
 use Rattle.way.specs.Way.{Replaced}
 use Rattle.way.proofs.Links.{agree-cells, agree-get}
-use Rattle.down.specs.Down.{Room, taken}
+use Rattle.down.specs.Down.{Room, freeTaken}
 
 -- as the code takes it
 pub took : (c d d′ d″ : List ℕ) (cell s n : ℕ) (p : Pair) → s ≡ freeOf c → n ≡ rightAt c s → d ≡ putPair c s p → d′ ≡ putLinks d s 0 0 → d″ ≡ set d′ 2 n
-    → set d″ cell s ≡ taken c cell p
-unfolding taken
+    → set d″ cell s ≡ freeTaken c cell p
+unfolding freeTaken
 took c d d′ d″ cell s n p es en e e′ e″ = rw (e″, e′, e, en, es)
 
 module _ {c : List ℕ} {cell : ℕ} (p : Pair) (r : Room c cell) (away : cell / perSlot ≢ freeOf c) (other : cell ≢ 2) where
@@ -32,21 +33,21 @@ module _ {c : List ℕ} {cell : ℕ} (p : Pair) (r : Room c cell) (away : cell /
   abbrev headed : List ℕ
   headed = set slotted 2 (rightAt c f)
 
-  taken-long : length (taken c cell p) ≡ length c
-  unfolding taken
+  taken-long : length (freeTaken c cell p) ≡ length c
+  unfolding freeTaken
   taken-long = length-set headed cell f ∙ length-set slotted 2 (rightAt c f) ∙ slot-wrote c f p 0 0 .long
 
-  taken-else : (j : ℕ) → j ≢ cell → j ≢ 2 → getD (taken c cell p) j 0 ≡ getD slotted j 0
-  unfolding taken
+  taken-else : (j : ℕ) → j ≢ cell → j ≢ 2 → getD (freeTaken c cell p) j 0 ≡ getD slotted j 0
+  unfolding freeTaken
   taken-else j n i = getD-set-other headed cell j f 0 n ∙ getD-set-other slotted 2 j (rightAt c f) 0 i
 
-  taken-slot : Holds (taken c cell p) f p 0 0
+  taken-slot : SlotHolds (freeTaken c cell p) f p 0 0
   taken-slot =
       let some = r .slot .some in
       holds-agree (slot-read c f p 0 0 (slot-fits (r .slot))) (agree-cells f (λ j e. taken-else j (λ i. away (omega arith)) (λ i. omega arith)))
 
-  taken-link : getD (taken c cell p) cell 0 ≡ f
-  unfolding taken
+  taken-link : getD (freeTaken c cell p) cell 0 ≡ f
+  unfolding freeTaken
   taken-link =
       let a = length-set slotted 2 (rightAt c f) in
       let b = slot-wrote c f p 0 0 .long in
@@ -54,15 +55,15 @@ module _ {c : List ℕ} {cell : ℕ} (p : Pair) (r : Room c cell) (away : cell /
       getD-set-same headed cell f 0 (omega arith)
 
   -- law: the next free slot is the first
-  pub taken-first : freeOf (taken c cell p) ≡ rightAt c f
-  unfolding taken
+  pub taken-first : freeOf (freeTaken c cell p) ≡ rightAt c f
+  unfolding freeTaken
   taken-first =
       let b = slot-wrote c f p 0 0 .long in
       let o = slot-fits (r .slot) in
       getD-set-other headed cell 2 f 0 (λ e. other (sym e)) ∙ getD-set-same slotted 2 (rightAt c f) 0 (omega arith)
 
   -- law: the place holds the slot
-  pub taken-replaced : Replaced c cell (fork f p none none) (fork f p none none) (taken c cell p)
+  pub taken-replaced : Replaced c cell (fork f p none none) (fork f p none none) (freeTaken c cell p)
   taken-replaced =
       let H = taken-slot in
       record {

@@ -7,8 +7,10 @@ use mathlib.Core.List.{List}
 use lib.ListN.{length, set}
 use Rattle.kinds.specs.declared.Pair.{Pair}
 use Rattle.kinds.specs.Pairs.{beats}
-use Rattle.kinds.specs.Stripe.{stripeAt, lowLevels}
-use Rattle.trees.specs.Tree.{Tree, Well, Stands, New, itself}
+use Rattle.kinds.specs.Stripe.{lowLevels}
+use Rattle.kinds.specs.Heights.{stripeAt}
+use Rattle.trees.specs.Tree.{Tree, Well, itself}
+use Rattle.trees.specs.Standing.{Stands, New}
 use Rattle.trees.specs.Changes.{goDown}
 use Rattle.pools.specs.Cells.{perSlot, freeOf, pairAt, rightAt, putPair, putLinks}
 use Rattle.pools.specs.Sound.{Sound, Slot}
@@ -56,5 +58,5 @@ pub record Room (c : List ℕ) (cell : ℕ) : Type 0 where
   pub slot : Slot c (freeOf c)
 
 -- the first free slot holds p, with links 0, and is linked from the cell; the next free slot is the first
-unfoldable pub taken : List ℕ → ℕ → Pair → List ℕ
-taken c cell p = let s = freeOf c in set (set (putLinks (putPair c s p) s 0 0) 2 (rightAt c s)) cell s
+unfoldable pub freeTaken : List ℕ → ℕ → Pair → List ℕ
+freeTaken c cell p = let s = freeOf c in set (set (putLinks (putPair c s p) s 0 0) 2 (rightAt c s)) cell s

@@ -2,11 +2,12 @@
 use kinds::Pair;
 use kinds::Stripe;
 ghost use mathlib.Core.Path.{_≡_};
-ghost use Rattle.pools.specs.Cells.{Fits, stored};
+ghost use Rattle.pools.specs.Cells.{stored};
+ghost use Rattle.pools.specs.Links.{Fits};
 ghost use Rattle.pools.specs.Laid.{inserted};
 ghost use Rattle.plain.specs.Plain.{hasX};
 ghost use Rattle.pools.specs.Sound.{Sound};
-ghost use Rattle.down.specs.Down.{Enters, Going, Carried, Settled, Room, taken};
+ghost use Rattle.down.specs.Down.{Enters, Going, Carried, Settled, Room, freeTaken};
 
 // Where a pair meets a slot's, the better one stays there, and the beaten one goes on.
 fn settle(pool: &mut [u32], slot: u32, p: Pair) -> Pair
@@ -24,7 +25,7 @@ fn settle(pool: &mut [u32], slot: u32, p: Pair) -> Pair
 // The first free slot is taken for a pair, and linked from a cell.
 fn take_free(pool: &mut [u32], cell: usize, p: Pair)
     requires { ⌜ Room (now pool) cell ⌝ }
-    ensures { λ _. ⌜ now (pool .exit) ≡ taken (now (pool .entry)) cell p ⌝ }
+    ensures { λ _. ⌜ now (pool .exit) ≡ freeTaken (now (pool .entry)) cell p ⌝ }
 {
     let slot = cells::first_free(pool);
     let next = cells::right(pool, slot);

@@ -14,11 +14,11 @@ turn c d s n h e =
     let z : n - s ≡ suc (n - (s + 1)) = omega arith in
     rw (z, e, add-one s)
 
-pub last : (c d : List ℕ) (s n : ℕ) → n ≡ s → d ≡ putFree c s 0 → d ≡ chained c s (suc (n - s))
+pub last-chained : (c d : List ℕ) (s n : ℕ) → n ≡ s → d ≡ putFree c s 0 → d ≡ chained c s (suc (n - s))
 unfolding chained
-last c d s n h e = let z : n - s ≡ 0 = omega arith in rw z e
+last-chained c d s n h e = let z : n - s ≡ 0 = omega arith in rw z e
 
-pub whole : (c d : List ℕ) → Pool c → d ≡ putHeader c 0 1 0 → chained d 1 (suc (slotsOf c - 1)) ≡ fresh (slotsOf c)
-whole c d p e =
+pub whole-chain : (c d : List ℕ) → Pool c → d ≡ putHeader c 0 1 0 → chained d 1 (suc (slotsOf c - 1)) ≡ fresh (slotsOf c)
+whole-chain c d p e =
     let z : suc (slotsOf c - 1) ≡ slotsOf c = omega arith in
     rw (z, e) (chained-fresh c (slotsOf c) (p .whole))

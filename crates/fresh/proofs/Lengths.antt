@@ -16,9 +16,9 @@ module _ (c : List ℕ) where
   unfolding isPool
   odd h = rw (ne-eqb (length c) (perSlot * (slotsOf c + 1)) (λ e. h (omega arith)))
 
-  pub short : length c < 8 → false ≡ isPool c
+  pub under-eight : length c < 8 → false ≡ isPool c
   unfolding isPool
-  short h = rw (and-false (eqb (length c) (perSlot * (slotsOf c + 1))) (leb 1 (slotsOf c)) (lt-leb 1 (slotsOf c) (omega arith)))
+  under-eight h = rw (and-false (eqb (length c) (perSlot * (slotsOf c + 1))) (leb 1 (slotsOf c)) (lt-leb 1 (slotsOf c) (omega arith)))
 
   pub long : length c % perSlot ≡ 0 → 8 ≤ length c → leb (length c) 16384 ≡ isPool c
   unfolding isPool

@@ -6,9 +6,11 @@ use mathlib.Core.Bool.{Bool, true, false, cond}
 use mathlib.Core.List.{List}
 use lib.Dec.{ltb}
 use borrow.Author.Tests.{eq-eqb, ne-eqb}
-use Rattle.kinds.specs.Stripe.{Stripe, middle, leftPart, rightPart, partOf}
+use Rattle.kinds.specs.Stripe.{Stripe, middle, leftPart, rightPart}
+use Rattle.kinds.specs.Heights.{partOf}
 use Rattle.trees.specs.Changes.{met}
-use Rattle.pools.specs.Cells.{Fits, pairAt, leftAt, rightAt, sonAt, treeAt}
+use Rattle.pools.specs.Cells.{pairAt, leftAt, rightAt, treeAt}
+use Rattle.pools.specs.Links.{Fits, sonAt}
 use Rattle.trees.specs.Tree.{itself}
 use Rattle.pools.specs.Sound.{Leads}
 use Rattle.kinds.proofs.Stripes.{low-part}
@@ -41,9 +43,9 @@ module _ (c : List ℕ) (k s : ℕ) (at : Stripe) (x : ℕ) where
     step j e h false b = rw (e, tree-fork c j s ne, ne-eqb (pairAt c s .x) x h, b)
 
     module _ (h : pairAt c s .x ≡ x → ⊥) (b : Bool) (s′ : ℕ) (at′ : Stripe) (eb : b ≡ ltb x (middle at)) (es : s′ ≡ sonAt c s b) (ea : at′ ≡ partOf at x) where
-      pub goes-on : met itself x at′ (treeAt c (k - 1) s′) ≡ met itself x at (treeAt c k s)
+      pub search-goes-on : met itself x at′ (treeAt c (k - 1) s′) ≡ met itself x at (treeAt c k s)
       unfolding sonAt partOf
-      goes-on = rw (ea, es, ← eb) (step (k - 1) (sym (back k deep)) h b (sym eb))
+      search-goes-on = rw (ea, es, ← eb) (step (k - 1) (sym (back k deep)) h b (sym eb))
 
       pub sought-on : Sought c (k - 1) s′ at′
       sought-on =

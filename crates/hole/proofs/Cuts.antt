@@ -9,7 +9,8 @@ use lib.ListN.{getD}
 use borrow.Author.Tests.{eq-eqb, ne-eqb}
 use Rattle.kinds.specs.declared.Pair.{Pair}
 use Rattle.kinds.specs.Pairs.{beats}
-use Rattle.kinds.specs.Stripe.{rootStripe, stripeAt}
+use Rattle.kinds.specs.Stripe.{rootStripe}
+use Rattle.kinds.specs.Heights.{stripeAt}
 use Rattle.trees.specs.Tree.{Tree, none, fork, itself}
 use Rattle.trees.specs.Changes.{Cut, fill, takeOut}
 use Rattle.pools.specs.Cells.{pairAt}

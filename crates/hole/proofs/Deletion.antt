@@ -8,21 +8,22 @@ use native.Mathlib.Omega.{arith}
 use lib.ListN.{getD, set}
 use Rattle.kinds.specs.declared.Pair.{Pair}
 use Rattle.plain.specs.Plain.{has}
-use Rattle.trees.specs.Tree.{Tree, members, size, Mem, here, in-left, in-right, Stands}
+use Rattle.trees.specs.Tree.{Tree, members, size, Mem, here, in-left, in-right}
+use Rattle.trees.specs.Standing.{Stands}
 use Rattle.pools.specs.Cells.{freeOf, countOf, freeMark, pairAt, stored}
 use Rattle.pools.specs.Sound.{Sound}
 use Rattle.kinds.proofs.Tests.{on}
 use Rattle.kinds.proofs.Order.{pair-ext}
 use Rattle.trees.proofs.Members.{members-mem}
 use Rattle.plain.proofs.Apart.{apart-same}
-use Rattle.pools.proofs.Agreement.{Holds, holds-agree, free-holds}
+use Rattle.pools.proofs.Agreement.{SlotHolds, holds-agree, free-holds}
 use Rattle.pools.proofs.Slots.{tree-slot}
 use Rattle.pools.proofs.InTree.{has-mem, mem-has}
-use Rattle.pools.proofs.Changed.{Changed}
+use Rattle.pools.proofs.Changed.{Relaid}
 use Rattle.pools.proofs.Deleted.{cut, given-slot, deleted-one}
 use Rattle.way.specs.Way.{Replaced, WayEnds}
 use Rattle.way.proofs.Links.{cell-agree}
-use Rattle.way.proofs.Counting.{counted}
+use Rattle.way.proofs.Counting.{count-written}
 use Rattle.way.proofs.Ways.{place-there, mem-there, stored-there, missing-there, replaced-root}
 use Rattle.hole.specs.declared.Removal.the-variants.{Done, Missing, Other}
 use Rattle.hole.specs.Hole.{Hole, Freed, Deletes, missing, other, done}
@@ -82,13 +83,13 @@ module _ {c : List ℕ} (s : Sound c) where
               pub some-counted : 1 ≤ n
               some-counted = omega (arith, same-count, some-size member, s .count)
 
-              changed : Changed c (set d 3 (n - 1)) (cut s (p .x) .tree) (s .tree) (cut s (p .x) .slot) (countOf c - 1)
-              changed = rw same-count (counted s replaced header-out first (countOf c - 1))
+              changed : Relaid c (set d 3 (n - 1)) (cut s (p .x) .tree) (s .tree) (cut s (p .x) .slot) (countOf c - 1)
+              changed = rw same-count (count-written s replaced header-out first (countOf c - 1))
 
-              given : Holds (set d 3 (n - 1)) (cut s (p .x) .slot) (record { x = 0; y = 0 }) freeMark (freeOf c)
+              given : SlotHolds (set d 3 (n - 1)) (cut s (p .x) .slot) (record { x = 0; y = 0 }) freeMark (freeOf c)
               given =
                   let some = given-slot s p member .some in
-                  let H : Holds d (cut s (p .x) .slot) (record { x = 0; y = 0 }) freeMark (freeOf c) = rw (F .next, first) at (free-holds (F .form)) in
+                  let H : SlotHolds d (cut s (p .x) .slot) (record { x = 0; y = 0 }) freeMark (freeOf c) = rw (F .next, first) at (free-holds (F .form)) in
                   holds-agree H (cell-agree d 3 (n - 1) (cut s (p .x) .slot) (omega arith))
 
               -- law: the pair is taken out

@@ -12,9 +12,11 @@ use lib.Seq.{getD-set-same, getD-set-other}
 use borrow.Author.Tests.{eqb-true, eqb-false}
 use Rattle.kinds.specs.declared.Pair.{Pair}
 use Rattle.kinds.specs.Pairs.{beats}
-use Rattle.trees.specs.Tree.{Tree, none, fork, at-top, itself}
+use Rattle.trees.specs.Tree.{Tree, none, fork, itself}
+use Rattle.trees.specs.Standing.{at-top}
 use Rattle.trees.specs.Changes.{fill}
-use Rattle.pools.specs.Cells.{perSlot, Fits, freeOf, pairAt, leftAt, rightAt, sonAt, linkCell, putFree, treeAt}
+use Rattle.pools.specs.Cells.{perSlot, freeOf, pairAt, leftAt, rightAt, putFree, treeAt}
+use Rattle.pools.specs.Links.{Fits, sonAt, linkCell}
 use Rattle.pools.specs.Sound.{nowhere, Leads}
 use Rattle.kinds.proofs.Tests.{on}
 use Rattle.pools.proofs.Leads.{back, tree-none, tree-fork, leads-deep, leads-fits, leads-son}

@@ -7,13 +7,14 @@ use mathlib.Core.List.{List}
 use native.Mathlib.Omega.{arith}
 use Rattle.kinds.specs.declared.Pair.{Pair}
 use Rattle.kinds.specs.Pairs.{beats}
-use Rattle.pools.specs.Cells.{pairAt, leftAt, rightAt, sonAt, linkCell}
+use Rattle.pools.specs.Cells.{pairAt, leftAt, rightAt}
+use Rattle.pools.specs.Links.{sonAt, linkCell}
 use Rattle.way.proofs.Links.{link-low}
 use Rattle.hole.specs.Hole.{Heirs, no-sons, heir}
 
 module _ (c : List ℕ) (s : ℕ) {l r : ℕ} (el : l ≡ leftAt c s) (er : r ≡ rightAt c s) where
-  pub neither : l ≡ 0 → r ≡ 0 → Heirs c s 0
-  neither zl zr = no-sons (sym el ∙ zl) (sym er ∙ zr)
+  pub no-heir : l ≡ 0 → r ≡ 0 → Heirs c s 0
+  no-heir zl zr = no-sons (sym el ∙ zl) (sym er ∙ zr)
 
   pub only-right : {h : ℕ} → l ≡ 0 → r ≢ 0 → h ≡ linkCell s false → Heirs c s h
   unfolding sonAt

@@ -9,7 +9,8 @@ use Rattle.kinds.specs.declared.Pair.{Pair}
 use Rattle.kinds.specs.Pairs.{beats}
 use Rattle.plain.specs.Plain.{hasX, has}
 use Rattle.trees.specs.Changes.{fill}
-use Rattle.pools.specs.Cells.{Fits, freeOf, pairAt, leftAt, rightAt, sonAt, linkCell, putPair, putFree, stored}
+use Rattle.pools.specs.Cells.{freeOf, pairAt, leftAt, rightAt, putPair, putFree, stored}
+use Rattle.pools.specs.Links.{Fits, sonAt, linkCell}
 use Rattle.pools.specs.Laid.{deleted}
 use Rattle.pools.specs.Sound.{Free}
 use Rattle.trees.specs.Tree.{itself}

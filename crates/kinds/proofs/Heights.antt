@@ -1,16 +1,18 @@
--- The stripe that x lies in, level by level: at each level one bit of x says on which side of the middle x lies.
+-- The stripe that x lies in, level by level: at each level one bit of x says on which side of the middle x lies. Assumed where they are needed:
+-- a level below, and for the root an x of 32 bits.
 use Prim.Native.Nat.{ℕ, suc, _+_, _*_, _-_, _/_, _%_, _^_, _≤_, _<_}
 use mathlib.Core.Path.{_≡_, sym, ap, _∙_, subst}
 use native.Mathlib.Omega.{arith}
 use native.Mathlib.Nat.{two-pow-succ, one-le-pow, add-mul, mul-add, one-mul, div-add-mod', mod-lt, div-div-eq-div-mul, div-eq-of-lt-le, div-eq-of-lt, pow-suc}
 use lib.Dec.{ltb, eqb}
 use borrow.Author.Tests.{lt-ltb, le-ltb, eqb-true, eqb-false}
-use Rattle.kinds.specs.Stripe.{In, rootStripe, middle, leftPart, rightPart, partOf, stripeAt}
+use Rattle.kinds.specs.Stripe.{In, rootStripe, middle, leftPart, rightPart}
+use Rattle.kinds.specs.Heights.{partOf, stripeAt}
 use Rattle.kinds.proofs.Tests.{on}
 
 -- law: a width is not 0
-pub some : (k : ℕ) → 1 ≤ 2 ^ k
-some k = one-le-pow k 2 (omega arith)
+pub power-some : (k : ℕ) → 1 ≤ 2 ^ k
+power-some k = one-le-pow k 2 (omega arith)
 
 -- the place of x in its stripe
 module _ (k x : ℕ) where
@@ -18,7 +20,7 @@ module _ (k x : ℕ) where
   whole = div-add-mod' x (2 ^ k)
 
   less : x % 2 ^ k < 2 ^ k
-  less = mod-lt x (some k)
+  less = mod-lt x (power-some k)
 
   -- law: x lies in it
   pub in-at : In (stripeAt k x) x

@@ -1,4 +1,4 @@
--- The five numbers of each case of an answer, as 01's table of codes has them.
+-- The five numbers of each case of an answer, as 01's table of codes has them. Nothing is assumed: every answer is one of the cases.
 use Prim.Native.Nat.{ℕ, zero, suc, _≤_}
 use mathlib.Core.Path.{_≡_, refl}
 use mathlib.Core.Bool.{Bool, true, false}

@@ -1,4 +1,5 @@
--- Beating is an order that decides between any two pairs with different x.
+-- Beating is an order that decides between any two pairs with different x. That the keys order pairs as this does assumes an x of 32 bits;
+-- nothing else is assumed.
 use Prim.Native.Nat.{ℕ, _≤_, _<_}
 use mathlib.Core.Path.{_≡_, refl, sym, _∙_}
 use mathlib.Core.Logic.{_≢_, _⊎_, inl, inr, ⊎-elim}

@@ -1,4 +1,5 @@
--- Values stored one after the other from a place on.
+-- Values stored one after the other from a place on: some and then the rest are all of them. Only the law on what is stored from the start
+-- assumes room.
 use Prim.Native.Nat.{ℕ, suc, _+_, _≤_}
 use mathlib.Core.Path.{_≡_, ap, _∙_}
 use mathlib.Core.List.{List, [], _∷_, _++_}

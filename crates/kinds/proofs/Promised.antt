@@ -1,4 +1,5 @@
--- A promise allows one result alone. A call whose result, and whose cells, are what is given at what was passed in has this by these laws.
+-- A promise allows one result alone. A call whose result, and whose cells, are what is given at what was passed in has this by these laws. Each
+-- takes two results of one promise, and assumes nothing else.
 use Prim.Native.Nat.{ℕ}
 use mathlib.Core.Path.{_≡_, ap, sym, _∙_}
 use mathlib.Core.List.{List}

@@ -1,9 +1,10 @@
--- The parts of a stripe whose ends can be added are such stripes.
+-- The parts of a stripe whose ends can be added (`Low`) are such stripes, and so is the root's. Nothing else is assumed.
 use Prim.Native.Nat.{ℕ}
 use mathlib.Core.Path.{_≡_, refl}
 use native.Mathlib.Omega.{arith}
 use lib.Dec.{ltb}
-use Rattle.kinds.specs.Stripe.{Stripe, Low, rootStripe, middle, leftPart, rightPart, partOf}
+use Rattle.kinds.specs.Stripe.{Stripe, rootStripe, middle, leftPart, rightPart}
+use Rattle.kinds.specs.Heights.{Low, partOf}
 use Rattle.kinds.proofs.Tests.{on}
 
 pub low-root : {p : Stripe} → p ≡ rootStripe → Low p

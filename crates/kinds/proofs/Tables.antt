@@ -1,4 +1,5 @@
--- A table of refusals: a line that holds refuses, and what no line refuses is made. Each law is over any lines and any cells.
+-- A table of refusals: a line that holds refuses, and what no line refuses is made. Each law is over any lines and any cells. Where the first
+-- code decides, no line's code is 0 (`Coded`).
 use Prim.Native.Nat.{ℕ}
 use mathlib.Core.Path.{_≡_, refl, ap, _∙_}
 use mathlib.Core.Logic.{_≢_}
@@ -7,8 +8,13 @@ use mathlib.Core.List.{List, [], _∷_, _++_}
 use borrow.Author.Tests.{ne-eqb}
 use Rattle.kinds.specs.declared.Answer.{Answer}
 use Rattle.kinds.specs.Answer.{five, refused, numbersOf}
-use Rattle.kinds.specs.Promise.{Line, Result, byLines, NoLine, firstCode, behind, given, Gives, Keeps, Promise, accepted}
+use Rattle.kinds.specs.Promise.{Line, Result, byLines, firstCode, behind, Gives, Keeps, Promise, accepted}
 use Rattle.kinds.proofs.Tests.{on, clash}
+
+-- no line of a table holds
+abbrev pub NoLine : List Line → Type 0
+NoLine [] = Unit {0}
+NoLine (l ∷ ls) = (l .when ≡ false) × NoLine ls
 
 -- what is given, by an answer that is the one given
 pub gives : {w : Result} {r : Answer} {c out : List ℕ} → r ≡ w .answer → c ≡ w .cells → out ≡ w .lent → Gives w r c out
@@ -86,10 +92,10 @@ pub data Decided (ls : List Line) (c out : List ℕ) (made : Result) : Result �
   refused-with : (k : ℕ) → k ≢ 0 → Decided ls c out made (record { answer = refused k; cells = c; lent = out })
   made-as : NoLine ls → Decided ls c out made made
 
-pub decided : (ls : List Line) (c out : List ℕ) (made : Result) → Coded ls → Decided ls c out made (byLines ls c out made)
+pub table-decided : (ls : List Line) (c out : List ℕ) (made : Result) → Coded ls → Decided ls c out made (byLines ls c out made)
 unfolding byLines
-decided [] c out made k = made-as tt
-decided (l ∷ ls) c out made k = go (decided ls c out made (k .1)) (l .when) refl
+table-decided [] c out made k = made-as tt
+table-decided (l ∷ ls) c out made k = go (table-decided ls c out made (k .1)) (l .when) refl
   where
     later : {w : Result} → Decided ls c out made w → l .when ≡ false → Decided (l ∷ ls) c out made w
     later (refused-with j n) f = refused-with j n

@@ -1,4 +1,4 @@
--- Computed tests, taken apart.
+-- Computed tests, taken apart. Nothing is assumed.
 use mathlib.Core.Path.{_≡_, refl, sym, _∙_}
 use mathlib.Core.Logic.{_⊎_, inl, inr}
 use mathlib.Core.Bool.{Bool, true, false, true≢false, _&&_, _||_}

@@ -1,6 +1,6 @@
 -- The five numbers of an answer, for each of its cases.
 use Prim.Native.Nat.{ℕ}
-use mathlib.Core.Bool.{Bool, true, false, cond}
+use mathlib.Core.Bool.{true, false, cond}
 use lib.Dec.{eqb}
 use Rattle.kinds.specs.declared.Finding.{Finding}
 use Rattle.kinds.specs.declared.Finding.the-variants.{Found as found-pair, Nothing as no-pair}
@@ -38,11 +38,3 @@ ended code = cond (eqb code codes.done) finished (refused code)
 abbrev pub outcomeOf : Finding → Outcome
 outcomeOf (found-pair p) = Found p
 outcomeOf no-pair = Nothing
-
--- a finding, with the visits beside it
-abbrev pub answered : Finding → ℕ → Answer
-answered f v = record { outcome = outcomeOf f; visits = v }
-
--- so many pairs listed, and whether a match found no room
-abbrev pub listedBy : ℕ → Bool → ℕ → Answer
-listedBy n more v = record { outcome = Listed n more; visits = v }

@@ -1,7 +1,7 @@
 -- What a call promises, and how it refuses: by a table of codes, each with when it is given, in 01's order.
 use Prim.Native.Nat.{ℕ}
 use mathlib.Core.Path.{_≡_}
-use mathlib.Core.Bool.{Bool, false, cond}
+use mathlib.Core.Bool.{Bool, cond}
 use mathlib.Core.List.{List, [], _∷_, _++_}
 use lib.Dec.{eqb}
 use Rattle.kinds.specs.declared.Answer.{Answer}
@@ -38,11 +38,6 @@ given P c out = byLines (P .lines) c out (P .made)
 -- a call is accepted where its code is 0
 abbrev pub accepted : Result → Bool
 accepted w = eqb (five (w .answer) .code) done
-
--- no line of a table holds
-abbrev pub NoLine : List Line → Type 0
-NoLine [] = Unit {0}
-NoLine (l ∷ ls) = (l .when ≡ false) × NoLine ls
 
 -- the code of the first line that holds, and 0 where none does
 unfoldable pub firstCode : List Line → ℕ

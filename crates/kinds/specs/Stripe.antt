@@ -1,6 +1,6 @@
 -- The part of the x that a slot of the tree owns.
-use Prim.Native.Nat.{ℕ, suc, _+_, _*_, _/_, _^_, _≤_, _<_}
-use mathlib.Core.Bool.{Bool, cond, _&&_}
+use Prim.Native.Nat.{ℕ, suc, _+_, _/_, _≤_, _<_}
+use mathlib.Core.Bool.{Bool, _&&_}
 use lib.Dec.{ltb, leb}
 
 -- a half-open stripe of x
@@ -31,14 +31,6 @@ leftPart s = record { lower = s .lower; upper = middle s }
 abbrev pub rightPart : Stripe → Stripe
 rightPart s = record { lower = middle s; upper = s .upper }
 
--- the part on x's side of the middle
-unfoldable pub partOf : Stripe → ℕ → Stripe
-partOf s x = cond (ltb x (middle s)) (leftPart s) (rightPart s)
-
--- the stripe that x lies in, with so many levels below it
-abbrev pub stripeAt : ℕ → ℕ → Stripe
-stripeAt k x = record { lower = x / 2 ^ k * 2 ^ k; upper = x / 2 ^ k * 2 ^ k + 2 ^ k }
-
 -- x lies in the stripe
 pub record In (s : Stripe) (x : ℕ) : Type 0 where
   pub from : s .lower ≤ x
@@ -47,8 +39,3 @@ pub record In (s : Stripe) (x : ℕ) : Type 0 where
 -- the same, as a test
 unfoldable pub holds : Stripe → ℕ → Bool
 holds s x = leb (s .lower) x && ltb x (s .upper)
-
--- neither end is beyond the root's: their sum fits 64 bits
-pub record Low (s : Stripe) : Type 0 where
-  pub lower : s .lower ≤ 4294967296
-  pub upper : s .upper ≤ 4294967296

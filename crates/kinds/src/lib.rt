@@ -2,9 +2,11 @@
 ghost use mathlib.Core.Path.{_≡_};
 ghost use Prim.Native.Nat.{_≤_};
 ghost use lib.Dec.{ltb};
-ghost use Rattle.kinds.specs.Answer.{five, finished, refused, ended, answered, listedBy};
+ghost use Rattle.kinds.specs.Answer.{five, finished, refused, ended};
+ghost use Rattle.kinds.specs.Making.{answered, listedBy};
 ghost use Rattle.kinds.specs.Pairs.{beats};
-ghost use Rattle.kinds.specs.Stripe.{Low, lowLevels, rootStripe, middle, leftPart, rightPart, partOf, stripeAt, holds};
+ghost use Rattle.kinds.specs.Stripe.{lowLevels, rootStripe, middle, leftPart, rightPart, holds};
+ghost use Rattle.kinds.specs.Heights.{Low, partOf, stripeAt};
 ghost use Rattle.kinds.specs.Shape.{stripeOf, Keyed};
 
 pub mod codes;

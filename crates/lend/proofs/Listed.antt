@@ -6,7 +6,7 @@ use lib.Dec.{ltb}
 use lib.ListN.{length, length-take}
 use Rattle.kinds.specs.declared.Answer.{Answer}
 use Rattle.kinds.specs.declared.Limits.{Limits}
-use Rattle.kinds.specs.Answer.{listedBy}
+use Rattle.kinds.specs.Making.{listedBy}
 use Rattle.kinds.specs.Promise.{Gives}
 use Rattle.kinds.specs.Stripe.{rootStripe}
 use Rattle.kinds.proofs.Tables.{gives}

@@ -1,4 +1,4 @@
--- A line is its letter and the numbers behind it.
+-- A line is its letter and the numbers behind it. Nothing is assumed of the line.
 use Prim.Native.Nat.{ℕ, _≤_, _<_}
 use mathlib.Core.Path.{_≡_, refl, sym, _∙_}
 use mathlib.Core.List.{List, [], _∷_, map}

@@ -1,4 +1,4 @@
--- The words of a line, and the numbers that they are.
+-- The words of a line, and the numbers that they are. Nothing is assumed of the line.
 use Prim.Native.Nat.{ℕ, suc, _+_, _-_, _≤_, _<_}
 use mathlib.Core.Path.{_≡_, refl, sym, ap, _∙_}
 use mathlib.Core.Bool.{Bool, true, false, true≢false}
@@ -15,7 +15,7 @@ use Rattle.line.specs.declared.Numbers.the-variants.{Other}
 use Rattle.line.specs.Line.{space, led, words, allNumbers}
 use Rattle.decimal.specs.Decimal.{value, isNumber}
 use Rattle.line.specs.Reading.{wordLength, counted, numbersAfter}
-use Rattle.decimal.specs.Reading.{numberIf, numberOf}
+use Rattle.decimal.specs.Reading.{numberIf, numberIn}
 
 -- law: a word is no longer than the text
 pub word-within : (t : List ℕ) → wordLength t ≤ length t
@@ -65,8 +65,8 @@ the-rest k t = let h = length-drop k t in take-all (length t - k) (drop k t) (om
 -- the numbers vs were read, and n is the length of the next word of t
 module _ (vs t : List ℕ) (n : ℕ) (en : n ≡ wordLength t) where
   -- law: a word that is no number
-  pub not-a-number : numberOf (take n t) ≡ Not → Other ≡ numbersAfter vs (words t)
-  unfolding numberOf numbersAfter
+  pub not-a-number : numberIn (take n t) ≡ Not → Other ≡ numbersAfter vs (words t)
+  unfolding numberIn numbersAfter
   not-a-number e =
       let f = no-number (isNumber (take n t)) (value (take n t)) e in
       let k : wordLength t ≤ length t = word-within t in
@@ -74,16 +74,16 @@ module _ (vs t : List ℕ) (n : ℕ) (en : n ≡ wordLength t) where
       (λ q. rw (last-word t (sym en ∙ eqb-true n (length t) q), ← en) (simp f))
       (λ q. rw (more-words t (let d = eqb-false n (length t) q in omega (arith, d, en)), ← en) (simp f))
 
-  module _ (a : ℕ) (e : numberOf (take n t) ≡ Is a) where
+  module _ (a : ℕ) (e : numberIn (take n t) ≡ Is a) where
     -- law: the last number
     pub last-number : n ≡ length t → counted (vs ++ (a ∷ [])) ≡ numbersAfter vs (words t)
-    unfolding numberOf numbersAfter
+    unfolding numberIn numbersAfter
     last-number q = let f = is-number (isNumber (take n t)) (value (take n t)) a e in rw (last-word t (sym en ∙ q), ← en) (simp (f .0, f .1))
 
     -- law: a number and those behind it
-    pub more-numbers : (n ≡ length t → ⊥) → (u : List ℕ) → u ≡ drop (n + 1) t → numbersAfter (vs ++ (a ∷ [])) (words u) ≡ numbersAfter vs (words t)
-    unfolding numberOf numbersAfter
-    more-numbers d u eu =
+    pub numbers-go-on : (n ≡ length t → ⊥) → (u : List ℕ) → u ≡ drop (n + 1) t → numbersAfter (vs ++ (a ∷ [])) (words u) ≡ numbersAfter vs (words t)
+    unfolding numberIn numbersAfter
+    numbers-go-on d u eu =
         let f = is-number (isNumber (take n t)) (value (take n t)) a e in
         let k = word-within t in
         let z : n + 1 ≡ suc n = omega arith in

@@ -1,4 +1,4 @@
--- What a line prints, a kind of line at a time.
+-- What a line prints, a kind of line at a time. It assumes room for what a line can print, and a sound pool where the call is made.
 use Prim.Native.Nat.{ℕ, _+_, _*_, _-_, _/_, _%_, _≤_, _<_}
 use mathlib.Core.Path.{_≡_, refl, sym, ap, _∙_}
 use mathlib.Core.Logic.{_≢_}
@@ -28,7 +28,7 @@ use Rattle.text.specs.Writing.{Puts, stripItems}
 use Rattle.text.proofs.Printing.{puts-then, item-few, rows-few, append-assoc}
 use Rattle.lines.specs.declared.Told.{Told}
 use Rattle.lines.specs.declared.Told.the-variants.{Bytes, Short}
-use Rattle.lines.specs.Script.{Done, foundRow, listRows, changed, found, listed, called, doneBy, tooShort, lineAnswered, LineKept}
+use Rattle.lines.specs.Script.{Done, foundRow, listRows, changeDone, foundDone, listDone, called, doneBy, tooShort, lineAnswered, LineKept}
 use Rattle.lines.specs.Writing.{Prints, refusalOf, refusedRows}
 
 -- law: what may be too short
@@ -98,7 +98,7 @@ list-few a room =
 
 -- a line that does d, by its kind: the pool's cells c, the listing room, and the output o
 module _ (c room o : List ℕ) (h : 55 + 33 * (length room / 2) ≤ length o) {d : Done} where
-  change : (n : ℕ) {c1 o1 : List ℕ} {r : ℕ} {w : Result} → d ≡ changed room w → Gives w (ended n) c1 [] → Puts o 0 (row (n ∷ [])) o1 r
+  change : (n : ℕ) {c1 o1 : List ℕ} {r : ℕ} {w : Result} → d ≡ changeDone room w → Gives w (ended n) c1 [] → Puts o 0 (row (n ∷ [])) o1 r
       → Prints d o c1 room o1 r
   change n {w = w} e G p =
       let f : n ≡ five (w .answer) .code = ap (λ m. m .code) (sym (ended-numbers n) ∙ G .numbers) in
@@ -109,7 +109,7 @@ module _ (c room o : List ℕ) (h : 55 + 33 * (length room / 2) ≤ length o) {d
         within = let l = row-few n in let g = p .end in omega arith;
       })
 
-  strip : {c1 o1 : List ℕ} {r : ℕ} {a : Answer} {w : Result} → d ≡ found c room w → Gives w a c1 [] → Puts o 0 (foundRow a) o1 r → Prints d o c room o1 r
+  strip : {c1 o1 : List ℕ} {r : ℕ} {a : Answer} {w : Result} → d ≡ foundDone c room w → Gives w a c1 [] → Puts o 0 (foundRow a) o1 r → Prints d o c room o1 r
   strip {a = a} e G p = rw e (record {
     cells = refl;
     listing = refl;
@@ -117,7 +117,7 @@ module _ (c room o : List ℕ) (h : 55 + 33 * (length room / 2) ≤ length o) {d
     within = let l = found-few a in let g = p .end in omega arith;
   })
 
-  list : {c1 room1 o1 : List ℕ} {r : ℕ} {a : Answer} {w : Result} → d ≡ listed c w → Gives w a c1 room1 → length room1 ≡ length room
+  list : {c1 room1 o1 : List ℕ} {r : ℕ} {a : Answer} {w : Result} → d ≡ listDone c w → Gives w a c1 room1 → length room1 ≡ length room
       → Puts o 0 (listRows a room1) o1 r → Prints d o c room1 o1 r
   list {room1 = room1} {a = a} e G l p = rw e (record {
     cells = refl;

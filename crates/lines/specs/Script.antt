@@ -41,16 +41,16 @@ abbrev pub listRows : Answer → List ℕ → List ℕ
 listRows a cells = countRow a ++ matchRows (five a .count) cells
 
 -- a change
-abbrev pub changed : (room : List ℕ) → Result → Done
-changed room w = record { cells = w .cells; room = room; bytes = codeRow (w .answer) }
+abbrev pub changeDone : (room : List ℕ) → Result → Done
+changeDone room w = record { cells = w .cells; room = room; bytes = codeRow (w .answer) }
 
 -- a question for one strip
-abbrev pub found : (c room : List ℕ) → Result → Done
-found c room w = record { cells = c; room = room; bytes = foundRow (w .answer) }
+abbrev pub foundDone : (c room : List ℕ) → Result → Done
+foundDone c room w = record { cells = c; room = room; bytes = foundRow (w .answer) }
 
 -- a list of strips
-abbrev pub listed : (c : List ℕ) → Result → Done
-listed c w = record { cells = c; room = w .lent; bytes = listRows (w .answer) (w .lent) }
+abbrev pub listDone : (c : List ℕ) → Result → Done
+listDone c w = record { cells = c; room = w .lent; bytes = listRows (w .answer) (w .lent) }
 
 -- what a call gives on any cells, lent these: the check comes first
 abbrev pub called : (c : List ℕ) → Promise → (lent : List ℕ) → Result
@@ -58,11 +58,11 @@ called c P lent = given (behindCheck c P) c lent
 
 -- what is asked is done
 unfoldable pub doneBy : (c room : List ℕ) → Asked → Done
-doneBy c room (Open start end number) = changed room (called c (opening c start end number) [])
-doneBy c room (Close start end number) = changed room (called c (closing c start end number) [])
-doneBy c room (First u) = found c room (called c (firstToEnd c u) [])
-doneBy c room (Last u e) = found c room (called c (lastToEnd c u e) [])
-doneBy c room (Covers u) = listed c (called c (listCovers c u room) room)
+doneBy c room (Open start end number) = changeDone room (called c (opening c start end number) [])
+doneBy c room (Close start end number) = changeDone room (called c (closing c start end number) [])
+doneBy c room (First u) = foundDone c room (called c (firstToEnd c u) [])
+doneBy c room (Last u e) = foundDone c room (called c (lastToEnd c u e) [])
+doneBy c room (Covers u) = listDone c (called c (listCovers c u room) room)
 doneBy c room Malformed = record { cells = c; room = room; bytes = row (codes.malformed ∷ []) }
 
 -- what a call leaves: the pool's cells, the listing room, the lent bytes, and how many of them it wrote

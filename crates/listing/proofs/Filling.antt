@@ -1,4 +1,4 @@
--- What a listing makes of its room, what it leaves for the next, and the cells that it writes.
+-- What a listing makes of its room, what it leaves for the next, and the cells that it writes. What is written assumes a count within the room.
 use Prim.Native.Nat.{ℕ, zero, suc, _+_, _*_, _-_, _≤_, _<_}
 use mathlib.Core.Path.{_≡_, refl, sym, ap, _∙_}
 use mathlib.Core.Bool.{Bool, true, false, cond}

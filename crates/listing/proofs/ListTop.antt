@@ -13,14 +13,14 @@ use Rattle.kinds.specs.Stripe.{allLevels, Stripe, rootStripe}
 use Rattle.walks.specs.Walks.{Listed, listing, roomOf}
 use Rattle.walks.proofs.Sizes.{listing-size}
 use Rattle.listing.specs.declared.Listing.{Listing}
-use Rattle.questions.specs.Walking.{Asked}
+use Rattle.questions.specs.Walking.{Walkable}
 use Rattle.listing.specs.Listing.{Lists, Lent}
 use Rattle.questions.proofs.Top.{root-asked}
 use Rattle.listing.proofs.ListWalk.{list-none}
 use Rattle.listing.proofs.Filling.{Fills, fills, put-written, stopped, goes-on, next-place}
 
 module _ (c : List ℕ) (S : Sound c) (s : ℕ) (at : Stripe) (es : s ≡ rootOf c) (ea : at ≡ rootStripe) where
-  pub from-root : Asked c allLevels s at 0
+  pub from-root : Walkable c allLevels s at 0
   from-root = rw (es, ea) (root-asked c S)
 
   module _ (x0 x1 y1 : ℕ) (o : List ℕ) (room : ℕ) (er : room ≡ roomOf o) (o′ : List ℕ) (n v : ℕ)

@@ -1,4 +1,4 @@
--- The listing, one step at a time, as the code takes it.
+-- The listing, one step at a time, as the code takes it. It assumes a place that can be walked (`Walkable`), and a count within the room.
 use Prim.Native.Nat.{ℕ, suc, _+_, _-_, _≤_, _<_}
 use mathlib.Core.Path.{_≡_, refl, sym, _∙_}
 use mathlib.Core.Bool.{Bool, true, false, cond, not}

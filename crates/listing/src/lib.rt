@@ -12,7 +12,7 @@ ghost use Rattle.kinds.specs.Shape.{stripeOf};
 ghost use Rattle.pools.specs.Sound.{Sound};
 ghost use Rattle.kinds.specs.Stripe.{allLevels, rootStripe};
 ghost use Rattle.walks.specs.Walks.{listed, listOwn, listing, roomOf};
-ghost use Rattle.questions.specs.Walking.{Asked};
+ghost use Rattle.questions.specs.Walking.{Walkable};
 ghost use Rattle.listing.specs.Listing.{Put, Lists, Lent};
 
 // The cells of a listed pair: x, y.
@@ -62,7 +62,7 @@ fn list_at(
     count: usize,
     visits: &mut u32,
 ) -> usize
-    requires { ⌜ (1 ≤ slot) × Asked (now pool) (suc levels) slot (stripeOf at) (now visits) × (count ≤ roomOf (now out)) ⌝ }
+    requires { ⌜ (1 ≤ slot) × Walkable (now pool) (suc levels) slot (stripeOf at) (now visits) × (count ≤ roomOf (now out)) ⌝ }
     ensures { λ r. ⌜ Lists (now (out .entry)) count (now (visits .entry)) (listing (limits x0 x1 y1) (stripeOf at) (treeAt (now (pool .entry)) (suc levels) slot) (roomOf (now (out .entry)) - count)) (now (out .exit)) r (now (visits .exit)) ⌝ }
 {
     *visits += 1;
@@ -122,7 +122,7 @@ fn list_son(
     count: usize,
     visits: &mut u32,
 ) -> usize
-    requires { ⌜ Asked (now pool) levels slot (stripeOf at) (now visits) × (count ≤ roomOf (now out)) ⌝ }
+    requires { ⌜ Walkable (now pool) levels slot (stripeOf at) (now visits) × (count ≤ roomOf (now out)) ⌝ }
     ensures { λ r. ⌜ Lists (now (out .entry)) count (now (visits .entry)) (cond go (listing (limits x0 x1 y1) (stripeOf at) (treeAt (now (pool .entry)) levels slot) (roomOf (now (out .entry)) - count)) (listed [] false 0)) (now (out .exit)) r (now (visits .exit)) ⌝ }
 {
     if slot == 0 {

@@ -1,5 +1,5 @@
 -- The walk for the smallest y, one step at a time, as the code takes it: the lower of two findings, a son that is asked or not, a slot. It
--- assumes what a walk may rely on (`Asked`).
+-- assumes what a walk may rely on (`Walkable`).
 use Prim.Native.Nat.{ℕ, suc, _+_, _-_, _≤_, _<_}
 use mathlib.Core.Path.{_≡_, refl, sym, _∙_}
 use mathlib.Core.Bool.{Bool, true, false, not}
@@ -13,7 +13,8 @@ use Rattle.kinds.specs.declared.Walked.{Walked}
 use Rattle.pools.specs.Cells.{pairAt, leftAt, rightAt, treeAt}
 use Rattle.plain.specs.Plain.{inRange}
 use Rattle.pools.specs.Sound.{Leads}
-use Rattle.kinds.specs.Stripe.{Stripe, Low, middle, leftPart, rightPart}
+use Rattle.kinds.specs.Stripe.{Stripe, middle, leftPart, rightPart}
+use Rattle.kinds.specs.Heights.{Low}
 use Rattle.trees.specs.Tree.{none, size}
 use Rattle.walks.specs.Walks.{seen, ask, smallestY}
 use Rattle.plain.proofs.Closest.{closest-nothing}
@@ -21,7 +22,7 @@ use Rattle.kinds.proofs.Tests.{on, clash}
 use Rattle.pools.proofs.Leads.{back, tree-fork, leads-deep}
 use Rattle.walks.proofs.Sizes.{smallestY-size}
 use Rattle.kinds.proofs.Stripes.{low-left, low-right}
-use Rattle.questions.specs.Walking.{foundAt, Some, Asked, Made}
+use Rattle.questions.specs.Walking.{foundAt, Some, Walkable, Made}
 use Rattle.questions.proofs.Finding.{not-lt, no-slot, found-none, found-some}
 use Rattle.questions.proofs.Places.{some, there, size-here, asked-left, asked-right}
 use Rattle.questions.proofs.Sons.{none-there, unasked, asked}
@@ -71,11 +72,11 @@ module _ (s : ℕ) (go b : Bool) (eb : b ≡ asks s go) where
     to-deep : b ≡ true → k ≡ 0 → ⊥
     to-deep t = leads-deep c k s h (to-there t)
 
-    to-here : (at : Stripe) (v : ℕ) → b ≡ true → Low at → v + size (treeAt c k s) < 4294967296 → (1 ≤ s) × Asked c (suc (k - 1)) s at v
+    to-here : (at : Stripe) (v : ℕ) → b ≡ true → Low at → v + size (treeAt c k s) < 4294967296 → (1 ≤ s) × Walkable c (suc (k - 1)) s at v
     to-here at v t w f =
         let n = to-there t in
         let m : 1 ≤ s = omega (arith, n) in
-        let a : Asked c k s at v = record { leads = h; low = w; few = f } in
+        let a : Walkable c k s at v = record { leads = h; low = w; few = f } in
         (m, rw (back k (to-deep t)) a)
 
     son-asked : (x0 x1 : ℕ) (at : Stripe) (v r v′ : ℕ) → b ≡ true → Made c v (smallestY x0 x1 at (treeAt c (suc (k - 1)) s)) r v′
@@ -109,13 +110,13 @@ module _ (c : List ℕ) (k l r : ℕ) (at : Stripe) (x0 x1 v : ℕ) (o : Asked-s
   pub right-deep : br ≡ true → k ≡ 0 → ⊥
   right-deep = to-deep r (not gr) br ebr c k (o .right)
 
-  pub left-here : (lp : Stripe) → bl ≡ true → lp ≡ leftPart at → (1 ≤ l) × Asked c (suc (k - 1)) l lp v
+  pub left-here : (lp : Stripe) → bl ≡ true → lp ≡ leftPart at → (1 ≤ l) × Walkable c (suc (k - 1)) l lp v
   left-here lp t e = to-here l gl bl ebl c k (o .left) lp v t (low-left (o .low) e) (let f = o .few in omega arith)
 
-  right-at : (rp : Stripe) (v′ : ℕ) → v′ ≤ v + size (treeAt c k l) → br ≡ true → rp ≡ rightPart at → (1 ≤ r) × Asked c (suc (k - 1)) r rp v′
+  right-at : (rp : Stripe) (v′ : ℕ) → v′ ≤ v + size (treeAt c k l) → br ≡ true → rp ≡ rightPart at → (1 ≤ r) × Walkable c (suc (k - 1)) r rp v′
   right-at rp v′ h t e = to-here r (not gr) br ebr c k (o .right) rp v′ t (low-right (o .low) e) (let f = o .few in omega arith)
 
-  pub right-here : (rp : Stripe) → br ≡ true → rp ≡ rightPart at → (1 ≤ r) × Asked c (suc (k - 1)) r rp v
+  pub right-here : (rp : Stripe) → br ≡ true → rp ≡ rightPart at → (1 ≤ r) × Walkable c (suc (k - 1)) r rp v
   right-here rp = right-at rp v (omega arith)
 
   right-made : (rp : Stripe) (v′ b vb : ℕ) → br ≡ true → rp ≡ rightPart at → Made c v′ (smallestY x0 x1 rp (treeAt c (suc (k - 1)) r)) b vb → Made c v′ R b vb
@@ -129,16 +130,16 @@ module _ (c : List ℕ) (k l r : ℕ) (at : Stripe) (x0 x1 v : ℕ) (o : Asked-s
     left-made = rw (egl, elp) at (son-asked l gl bl ebl c k (o .left) x0 x1 lp v a va t A)
 
     -- what the left son visited leaves room for the right one
-    pub right-then : (rp : Stripe) → br ≡ true → rp ≡ rightPart at → (1 ≤ r) × Asked c (suc (k - 1)) r rp va
+    pub right-then : (rp : Stripe) → br ≡ true → rp ≡ rightPart at → (1 ≤ r) × Walkable c (suc (k - 1)) r rp va
     right-then rp =
         let n = smallestY-size x0 x1 lp (treeAt c k l) in
         let A′ : Made c v (smallestY x0 x1 lp (treeAt c k l)) a va = rw (back k (left-deep t)) at A in
         let z = A′ .visits in
         right-at rp va (omega arith)
 
-    pub both : (rp : Stripe) → br ≡ true → rp ≡ rightPart at → (b vb n : ℕ) → Made c va (smallestY x0 x1 rp (treeAt c (suc (k - 1)) r)) b vb → Lower c a b n
+    pub both-asked : (rp : Stripe) → br ≡ true → rp ≡ rightPart at → (b vb n : ℕ) → Made c va (smallestY x0 x1 rp (treeAt c (suc (k - 1)) r)) b vb → Lower c a b n
         → Made c v (lowerOf L R) n vb
-    both rp u erp b vb n B N = joined c v L R a b n va vb left-made (right-made rp va b vb u erp B) N
+    both-asked rp u erp b vb n B N = joined c v L R a b n va vb left-made (right-made rp va b vb u erp B) N
 
     pub left-only : br ≡ false → Made c v (lowerOf L R) a va
     left-only f = joined c v L R a 0 a va va left-made (right-unmade va f) (lower-first c a 0 refl (A .some))
@@ -150,11 +151,11 @@ module _ (c : List ℕ) (k l r : ℕ) (at : Stripe) (x0 x1 v : ℕ) (o : Asked-s
       → Made c v (lowerOf L R) b vb
   right-only f rp u erp b vb B = joined c v L R 0 b b v vb (left-unmade f) (right-made rp v b vb u erp B) (lower-second c 0 b refl (B .some))
 
-  pub neither : bl ≡ false → br ≡ false → Made c v (lowerOf L R) 0 v
-  neither f g = joined c v L R 0 0 0 v v (left-unmade f) (right-unmade v g) (lower-first c 0 0 refl (no-slot c))
+  pub neither-asked : bl ≡ false → br ≡ false → Made c v (lowerOf L R) 0 v
+  neither-asked f g = joined c v L R 0 0 0 v v (left-unmade f) (right-unmade v g) (lower-first c 0 0 refl (no-slot c))
 
 -- a slot
-module _ (c : List ℕ) (k s : ℕ) (at : Stripe) (v : ℕ) (one : 1 ≤ s) (o : Asked c (suc k) s at v) where
+module _ (c : List ℕ) (k s : ℕ) (at : Stripe) (v : ℕ) (one : 1 ≤ s) (o : Walkable c (suc k) s at v) where
   pub sons-asked : (l r : ℕ) → l ≡ leftAt c s → r ≡ rightAt c s → Asked-sons c k l r at (v + 1)
   sons-asked l r el er =
       let a = asked-left c k s at v one o l (v + 1) (leftPart at) el refl (omega arith) in
@@ -177,11 +178,11 @@ module _ (c : List ℕ) (k s : ℕ) (at : Stripe) (v : ℕ) (one : 1 ≤ s) (o :
         let n = some c k s at v one o in
         rw (tree-fork c k s n, e) (record { found = found-some c s n; some = λ ne. there c k s at v one o; visits = refl })
 
-    pub below : g ≡ false → (l r : ℕ) → l ≡ leftAt c s → r ≡ rightAt c s → (n v′ : ℕ)
+    pub from-sons : g ≡ false → (l r : ℕ) → l ≡ leftAt c s → r ≡ rightAt c s → (n v′ : ℕ)
         → Made c (v + 1) (lowerOf (ask (ltb x0 (middle at)) (smallestY x0 x1 (leftPart at) (treeAt c k l))) (ask (leb (middle at) x1) (smallestY x0 x1 (rightPart at) (treeAt c k r)))) n v′
         → Made c v W n v′
     unfolding smallestY
-    below f l r el er n v′ M =
+    from-sons f l r el er n v′ M =
         let e : inRange x0 x1 (pairAt c s) ≡ false = sym in-is ∙ f in
         let M′ : Made c (v + 1) (lowerOf (ask (ltb x0 (middle at)) (smallestY x0 x1 (leftPart at) (treeAt c k (leftAt c s))))
         (ask (leb (middle at) x1) (smallestY x0 x1 (rightPart at) (treeAt c k (rightAt c s))))) n v′ = rw (el, er) at M in

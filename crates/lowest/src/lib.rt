@@ -12,7 +12,7 @@ ghost use Rattle.kinds.specs.Shape.{stripeOf};
 ghost use Rattle.pools.specs.Sound.{Sound};
 ghost use Rattle.kinds.specs.Stripe.{allLevels, rootStripe, middle, leftPart, rightPart};
 ghost use Rattle.walks.specs.Walks.{smallestY, ask};
-ghost use Rattle.questions.specs.Walking.{Some, Asked, Made};
+ghost use Rattle.questions.specs.Walking.{Some, Walkable, Made};
 ghost use Rattle.lowest.specs.Sons.{Lower, asks, lowerOf, Asked-sons};
 
 // Whether a son is asked: it is there, and its side is asked.
@@ -54,7 +54,7 @@ fn smallest_y_at(
     x1: u32,
     visits: &mut u32,
 ) -> u32
-    requires { ⌜ (1 ≤ slot) × Asked (now pool) (suc levels) slot (stripeOf at) (now visits) ⌝ }
+    requires { ⌜ (1 ≤ slot) × Walkable (now pool) (suc levels) slot (stripeOf at) (now visits) ⌝ }
     ensures { λ r. ⌜ Made (now (pool .entry)) (now (visits .entry)) (smallestY x0 x1 (stripeOf at) (treeAt (now (pool .entry)) (suc levels) slot)) r (now (visits .exit)) ⌝ }
 {
     *visits += 1;

@@ -1,4 +1,4 @@
--- The marked cases hold: the played ones by working them out, those on lengths for all cells of such a length.
+-- The marked cases hold: the played ones by working them out, those on lengths for all cells of such a length. Nothing is assumed.
 use Prim.Native.Nat.{ℕ, _%_}
 use mathlib.Core.Path.{_≡_, refl, sym}
 use mathlib.Core.Bool.{Bool, true, false, _&&_}
@@ -20,7 +20,7 @@ use Rattle.walks.specs.Walks.{smallestX, largestX, smallestY, listing}
 use Rattle.pools.proofs.Decided.{pool-true}
 use Rattle.kinds.proofs.Tests.{on}
 use Rattle.sound.specs.Promises.{lengthLine, setUp}
-use Rattle.fresh.proofs.Lengths.{odd, short, long}
+use Rattle.fresh.proofs.Lengths.{odd, under-eight, long}
 use Rattle.sound.proofs.Meaning as meaning
 use Rattle.plain.specs.Books.{plainInsert, plainDelete, plainSmallestX, plainLargestX, plainSmallestY, plainListing}
 use Rattle.plain.specs.Strips.{plainOpen, plainClose, plainFirst, plainCovers}
@@ -37,7 +37,7 @@ pool-length : (c : List ℕ) → isPool c ≡ poolLength (length c)
 pool-length c = on (eqb (length c % 4) 0)
     (λ e. on (leb 8 (length c))
     (λ g. rw (e, g) (sym (long c (eqb-true _ _ e) (leb-true _ _ g))))
-    (λ g. rw (e, g) (sym (short c (leb-false _ _ g)))))
+    (λ g. rw (e, g) (sym (under-eight c (leb-false _ _ g)))))
     (λ e. rw e (sym (odd c (eqb-false _ _ e))))
 
 -- all cells of such a length: set up and check are done

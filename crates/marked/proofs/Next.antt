@@ -1,4 +1,5 @@
--- An accepted pair is found by each next question, and a deleted one by none: of all stored pairs it alone has its x.
+-- An accepted pair is found by each next question, and a deleted one by none: of all stored pairs it alone has its x. It assumes a program that
+-- keeps every promise; the x of an inserted pair is of 32 bits.
 use Prim.Native.Nat.{ℕ, zero, suc, _≤_, _<_}
 use mathlib.Core.Path.{_≡_, refl, sym, ap, _∙_, subst}
 use mathlib.Core.Logic.{_≢_, inl}
@@ -28,7 +29,7 @@ use Rattle.sound.specs.Promises.{behindCheck}
 use Rattle.sound.proofs.Lines.{entry-made}
 use Rattle.promises.specs.Promises.{smallestXAsked, largestXAsked, smallestYAsked, listingAsked}
 use Rattle.pool.specs.Showing.{Shows}
-use Rattle.pool.proofs.Changes.{inserts, deletes, insert-accepted, insert-sound, insert-stored, delete-accepted, delete-sound, delete-gone}
+use Rattle.pool.proofs.Changes.{insertGives, deleteGives, insert-accepted, insert-sound, insert-stored, delete-accepted, delete-sound, delete-gone}
 use Rattle.pool.proofs.Shown.{listing-shows}
 use Rattle.runs.specs.Calls as calls
 use Rattle.runs.specs.Calls.{promised}
@@ -191,7 +192,7 @@ module _ (g : Program) (keeps : KeepsAll g) {d : List ℕ} (s : Sound d) where
 module _ (g : Program) (keeps : KeepsAll g) (t : ℕ) (c : List ℕ) (p : Pair) where
   -- law: an insert that is accepted changes the cells, and the pair is found by each next question
   module _ (small : p .x < 4294967296) (a : five (g t c (calls.insert p) .answer) .code ≡ 0) where
-    taken : five (inserts c p .answer) .code ≡ 0
+    taken : five (insertGives c p .answer) .code ≡ 0
     unfolding promised
     taken = rw (keeps t c (calls.insert p)) at a
 
@@ -199,7 +200,7 @@ module _ (g : Program) (keeps : KeepsAll g) (t : ℕ) (c : List ℕ) (p : Pair) 
     unfolding promised
     insert-changes e =
         let n = insert-gains c p small (eq-eqb _ 0 taken) in
-        let i : inserts c p .cells ≡ c = rw (keeps t c (calls.insert p)) at e in
+        let i : insertGives c p .cells ≡ c = rw (keeps t c (calls.insert p)) at e in
         n .new (subst (λ l. List·Memᴰ p (stored l)) i (n .rest p .1 (inl refl)))
 
     pub insert-found : Finds g (g t c (calls.insert p) .cells) p
@@ -211,7 +212,7 @@ module _ (g : Program) (keeps : KeepsAll g) (t : ℕ) (c : List ℕ) (p : Pair) 
 
   -- law: a delete that is accepted changes the cells, and the pair is found by no next question
   module _ (a : five (g t c (calls.delete p) .answer) .code ≡ 0) where
-    gone : five (deletes c p .answer) .code ≡ 0
+    gone : five (deleteGives c p .answer) .code ≡ 0
     unfolding promised
     gone = rw (keeps t c (calls.delete p)) at a
 
@@ -219,7 +220,7 @@ module _ (g : Program) (keeps : KeepsAll g) (t : ℕ) (c : List ℕ) (p : Pair) 
     unfolding promised
     delete-changes e =
         let n = delete-loses c p (eq-eqb _ 0 gone) in
-        let i : deletes c p .cells ≡ c = rw (keeps t c (calls.delete p)) at e in
+        let i : deleteGives c p .cells ≡ c = rw (keeps t c (calls.delete p)) at e in
         n .new (subst (λ l. List·Memᴰ p (stored l)) (sym i) (n .rest p .1 (inl refl)))
 
     pub delete-missed : Misses g (g t c (calls.delete p) .cells) (p .x)

@@ -1,4 +1,4 @@
--- What each kind's sample shows, by working it out.
+-- What each kind's sample shows, by working it out. Nothing is assumed.
 use Prim.Native.Nat.{ℕ, _+_}
 use mathlib.Core.Path.{_≡_, refl, sym, ap, _∙_}
 use mathlib.Core.Bool.{false}

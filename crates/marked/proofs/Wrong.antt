@@ -9,9 +9,9 @@ use Rattle.kinds.specs.declared.Finding.the-variants.{Found as found-pair, Noth
 use Rattle.kinds.specs.declared.Outcome.{Outcome}
 use Rattle.kinds.specs.declared.Outcome.the-variants.{Found, Nothing, Listed, Refused}
 use Rattle.kinds.specs.Answer.{five, numbersOf, outcomeOf}
-use Rattle.kinds.specs.Promise.{Line, Result, NoLine, byLines}
+use Rattle.kinds.specs.Promise.{Line, Result, byLines}
 use Rattle.kinds.proofs.Promised.{one-answer}
-use Rattle.kinds.proofs.Tables.{none-holds}
+use Rattle.kinds.proofs.Tables.{NoLine, none-holds}
 use Rattle.kinds.proofs.Tests.{on, clash}
 use Rattle.plain.specs.Books.{Book, plainInsert, plainDelete, plainSmallestX, plainLargestX, plainSmallestY, plainListing}
 use Rattle.plain.specs.Plain.{smallestXOf, largestXOf, smallestYOf}

@@ -33,12 +33,12 @@ pub data Sight : Type 0 where
   the-cells : List ℕ → Sight
 
 -- what is seen, step by step, by the promises: each call works on the cells that the former left
-abbrev pub seen : List Step → List ℕ → List Sight
-seen [] c = []
-seen (gives k a ∷ ss) c = let w : Result = play c k in the-answer (five (w .answer)) ∷ seen ss (w .cells)
-seen (fills k a out ∷ ss) c = let w : Result = play c k in the-answer (five (w .answer)) ∷ the-cells (w .lent) ∷ seen ss (w .cells)
-seen (reads f n ∷ ss) c = the-number (f c) ∷ seen ss c
-seen (holds d ∷ ss) c = the-cells c ∷ seen ss c
+abbrev pub sights : List Step → List ℕ → List Sight
+sights [] c = []
+sights (gives k a ∷ ss) c = let w : Result = play c k in the-answer (five (w .answer)) ∷ sights ss (w .cells)
+sights (fills k a out ∷ ss) c = let w : Result = play c k in the-answer (five (w .answer)) ∷ the-cells (w .lent) ∷ sights ss (w .cells)
+sights (reads f n ∷ ss) c = the-number (f c) ∷ sights ss c
+sights (holds d ∷ ss) c = the-cells c ∷ sights ss c
 
 -- what is to be seen
 abbrev pub said : List Step → List Sight
@@ -78,7 +78,7 @@ pub record Refuses (c : List ℕ) (k : Call) : Type 0 where
 
 -- a case holds: by its steps; or for all cells of its length, and for every call where that is refused
 abbrev pub Holds : Case → Type 0
-Holds (played P n ss) = seen (gives set-up zeros ∷ ss) (lentCells n) ≡ said (gives set-up zeros ∷ ss)
+Holds (played P n ss) = sights (gives set-up zeros ∷ ss) (lentCells n) ≡ said (gives set-up zeros ∷ ss)
 Holds (serves P n) = (c : List ℕ) → length c ≡ n → Serves c
 Holds (refuses P n) = (c : List ℕ) → length c ≡ n → (k : Call) → Refuses c k
 
@@ -89,31 +89,31 @@ inserts x y = insert (record { x = x; y = y })
 abbrev pub deletes : (x y : ℕ) → Call
 deletes x y = delete (record { x = x; y = y })
 
-abbrev pub smallestX : (x0 x1 y1 : ℕ) → Call
-smallestX x0 x1 y1 = smallest-x (limits x0 x1 y1)
+abbrev pub smallestXIn : (x0 x1 y1 : ℕ) → Call
+smallestXIn x0 x1 y1 = smallest-x (limits x0 x1 y1)
 
-abbrev pub largestX : (x0 x1 y1 : ℕ) → Call
-largestX x0 x1 y1 = largest-x (limits x0 x1 y1)
+abbrev pub largestXIn : (x0 x1 y1 : ℕ) → Call
+largestXIn x0 x1 y1 = largest-x (limits x0 x1 y1)
 
-abbrev pub lists : (x0 x1 y1 : ℕ) (out : List ℕ) → Call
-lists x0 x1 y1 out = list (limits x0 x1 y1) out
+abbrev pub listsIn : (x0 x1 y1 : ℕ) (out : List ℕ) → Call
+listsIn x0 x1 y1 out = list (limits x0 x1 y1) out
 
-abbrev pub opening : (start end number : ℕ) → Call
-opening start end number = opens (record { start = start; end = end; number = number })
+abbrev pub opensStrip : (start end number : ℕ) → Call
+opensStrip start end number = opens (record { start = start; end = end; number = number })
 
-abbrev pub closing : (start end number : ℕ) → Call
-closing start end number = closes (record { start = start; end = end; number = number })
+abbrev pub closesStrip : (start end number : ℕ) → Call
+closesStrip start end number = closes (record { start = start; end = end; number = number })
 
 -- the largest number of 32 bits
-abbrev pub largest : ℕ
-largest = 4294967295
+abbrev pub largest32 : ℕ
+largest32 = 4294967295
 
 -- P1 [5, 1], [2147483648, 2]: largest x in 0..2147483648, y ≤ 9 is 2147483648, 2 visits
 abbrev pub halfway : List Step
 halfway =
     gives (inserts 5 1) zeros
     ∷ gives (inserts 2147483648 2) zeros
-    ∷ gives (largestX 0 2147483648 9) (numbers 0 2147483648 2 0 2)
+    ∷ gives (largestXIn 0 2147483648 9) (numbers 0 2147483648 2 0 2)
     ∷ []
 
 -- P2 [9, 2], [5, 3]: insert [5, 1] gives 4
@@ -143,22 +143,22 @@ fullPool =
     ∷ []
 
 -- P6 [0, 0] and [4294967295, 4294967295] are stored and found, by each question
-abbrev pub ends : List Step
-ends =
+abbrev pub bothEnds : List Step
+bothEnds =
     gives (inserts 0 0) zeros
-    ∷ gives (inserts largest largest) zeros
-    ∷ gives (smallestX 0 0 0) (numbers 0 0 0 0 1)
-    ∷ gives (smallestX largest largest largest) (numbers 0 largest largest 0 2)
-    ∷ gives (largestX 0 0 0) (numbers 0 0 0 0 1)
-    ∷ gives (largestX largest largest largest) (numbers 0 largest largest 0 2)
+    ∷ gives (inserts largest32 largest32) zeros
+    ∷ gives (smallestXIn 0 0 0) (numbers 0 0 0 0 1)
+    ∷ gives (smallestXIn largest32 largest32 largest32) (numbers 0 largest32 largest32 0 2)
+    ∷ gives (largestXIn 0 0 0) (numbers 0 0 0 0 1)
+    ∷ gives (largestXIn largest32 largest32 largest32) (numbers 0 largest32 largest32 0 2)
     ∷ gives (smallest-y 0 0) (numbers 0 0 0 0 1)
-    ∷ gives (smallest-y largest largest) (numbers 0 largest largest 0 2)
-    ∷ fills (lists 0 largest largest (7 ∷ 7 ∷ 7 ∷ 7 ∷ [])) (numbers 0 0 0 2 2) (0 ∷ 0 ∷ largest ∷ largest ∷ [])
+    ∷ gives (smallest-y largest32 largest32) (numbers 0 largest32 largest32 0 2)
+    ∷ fills (listsIn 0 largest32 largest32 (7 ∷ 7 ∷ 7 ∷ 7 ∷ [])) (numbers 0 0 0 2 2) (0 ∷ 0 ∷ largest32 ∷ largest32 ∷ [])
     ∷ []
 
 -- the three script strips, opened in that order, and then
 abbrev pub script : List Step → List Step
-script ss = gives (opening 10 20 1) zeros ∷ gives (opening 5 20 2) zeros ∷ gives (opening 12 12 3) zeros ∷ ss
+script ss = gives (opensStrip 10 20 1) zeros ∷ gives (opensStrip 5 20 2) zeros ∷ gives (opensStrip 12 12 3) zeros ∷ ss
 
 -- P7 slot 20 is covered by two, slot 21 by none, slot 4 by none
 abbrev pub covered : List Step
@@ -186,12 +186,12 @@ three =
 abbrev pub closed : List Step
 closed = script (
     holds three
-    ∷ gives (closing 10 20 1) zeros
+    ∷ gives (closesStrip 10 20 1) zeros
     ∷ reads (λ c. numberOf (pairAt c 2)) 3
     ∷ reads freeOf 3
     ∷ reads (λ c. leftAt c 3) freeMark
     ∷ reads (λ c. rightAt c 3) 4
-    ∷ gives (opening 10 20 1) zeros
+    ∷ gives (opensStrip 10 20 1) zeros
     ∷ holds three
     ∷ [])
 
@@ -199,10 +199,10 @@ closed = script (
 abbrev pub noRoom : List Step
 noRoom =
     gives (inserts 1 1) zeros
-    ∷ fills (lists 0 9 9 []) (numbers 10 0 0 0 1) []
-    ∷ fills (lists 0 9 9 (7 ∷ [])) (numbers 10 0 0 0 1) (7 ∷ [])
-    ∷ fills (lists 2 9 9 []) (numbers 0 0 0 0 1) []
-    ∷ fills (lists 2 9 9 (7 ∷ [])) (numbers 0 0 0 0 1) (7 ∷ [])
+    ∷ fills (listsIn 0 9 9 []) (numbers 10 0 0 0 1) []
+    ∷ fills (listsIn 0 9 9 (7 ∷ [])) (numbers 10 0 0 0 1) (7 ∷ [])
+    ∷ fills (listsIn 2 9 9 []) (numbers 0 0 0 0 1) []
+    ∷ fills (listsIn 2 9 9 (7 ∷ [])) (numbers 0 0 0 0 1) (7 ∷ [])
     ∷ holds (1 ∷ 1 ∷ 0 ∷ 1 ∷ 1 ∷ 1 ∷ 0 ∷ 0 ∷ [])
     ∷ []
 
@@ -219,7 +219,7 @@ cases =
     ∷ refuses 5 4
     ∷ refuses 5 7
     ∷ refuses 5 16388
-    ∷ played 6 2 ends
+    ∷ played 6 2 bothEnds
     ∷ played 7 5 covered
     ∷ played 8 5 closed
     ∷ played 9 1 noRoom

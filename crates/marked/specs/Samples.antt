@@ -34,28 +34,28 @@ pub record Sample : Type 0 where
   pub otherwise : List ℕ
 
 -- a sample by its parts
-abbrev pub on : Call → List ℕ → List ℕ → Sample
-on k c d = record { call = k; served = c; otherwise = d }
+abbrev pub sampleOf : Call → List ℕ → List ℕ → Sample
+sampleOf k c d = record { call = k; served = c; otherwise = d }
 
 -- a sample of each kind
 abbrev pub sample : Kind → Sample
-sample set-ups = on set-up one []
-sample inserts = on (insert (record { x = 1; y = 0 })) empty one
-sample deletes = on (delete (record { x = 1; y = 0 })) one empty
-sample smallest-xs = on (smallest-x (limits 1 1 0)) one empty
-sample largest-xs = on (largest-x (limits 1 1 0)) one empty
-sample smallest-ys = on (smallest-y 1 1) one empty
-sample listings = on (list (limits 1 1 0) room) one empty
-sample openings = on (opens only) empty one
-sample closings = on (closes only) one empty
-sample firsts = on (first 0) one empty
-sample lasts = on (last 0 0) one empty
-sample earliests = on (earliest 0 0) one empty
-sample coverings = on (covers 0 room) one empty
-sample meetings = on (meets 0 0 room) one empty
-sample containings = on (contains 0 0 room) one empty
-sample checks = on check one []
-sample saves = on (save (replicate 13 7)) one []
+sample set-ups = sampleOf set-up one []
+sample inserts = sampleOf (insert (record { x = 1; y = 0 })) empty one
+sample deletes = sampleOf (delete (record { x = 1; y = 0 })) one empty
+sample smallest-xs = sampleOf (smallest-x (limits 1 1 0)) one empty
+sample largest-xs = sampleOf (largest-x (limits 1 1 0)) one empty
+sample smallest-ys = sampleOf (smallest-y 1 1) one empty
+sample listings = sampleOf (list (limits 1 1 0) room) one empty
+sample openings = sampleOf (opens only) empty one
+sample closings = sampleOf (closes only) one empty
+sample firsts = sampleOf (first 0) one empty
+sample lasts = sampleOf (last 0 0) one empty
+sample earliests = sampleOf (earliest 0 0) one empty
+sample coverings = sampleOf (covers 0 room) one empty
+sample meetings = sampleOf (meets 0 0 room) one empty
+sample containings = sampleOf (contains 0 0 room) one empty
+sample checks = sampleOf check one []
+sample saves = sampleOf (save (replicate 13 7)) one []
 
 -- what a kind's sample shows of its promise: it does not refuse everything, it does not always answer the same, and it writes where its kind does
 pub record Shown (K : Kind) (s : Sample) : Type 0 where

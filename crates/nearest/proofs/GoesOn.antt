@@ -70,9 +70,9 @@ module _ (W : Stripe → Tree Pair → Walked) (empty : (at : Stripe) → W at n
         }
 
     -- law: and needs not wait behind another
-    pub alone : (p z : Stop) (ps : List Stop) → z .slot ≡ 0 → GoesOn W closer c answer (p ∷ z ∷ ps) best v → GoesOn W closer c answer (p ∷ ps) best v
+    pub first-alone : (p z : Stop) (ps : List Stop) → z .slot ≡ 0 → GoesOn W closer c answer (p ∷ z ∷ ps) best v → GoesOn W closer c answer (p ∷ ps) best v
     unfolding StopsFit slotsAt stopByStop
-    alone p z ps e G =
+    first-alone p z ps e G =
         let f = G .few in
         record {
           fit = (lower c (allLevels - length (z ∷ ps)) (allLevels - length ps) p (omega arith) (G .fit .0), G .fit .1 .1);

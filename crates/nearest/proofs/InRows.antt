@@ -11,7 +11,8 @@ use Rattle.kinds.specs.declared.Finding.the-variants.{Nothing}
 use Rattle.kinds.specs.declared.Limits.{Limits}
 use Rattle.kinds.specs.declared.Pair.{Pair}
 use Rattle.kinds.specs.declared.Walked.{Walked}
-use Rattle.pools.specs.Cells.{Fits, pairAt, rootOf, treeAt}
+use Rattle.pools.specs.Cells.{pairAt, rootOf, treeAt}
+use Rattle.pools.specs.Links.{Fits}
 use Rattle.plain.specs.Plain.{inRange}
 use Rattle.pools.specs.Sound.{Sound}
 use Rattle.kinds.specs.Stripe.{lowLevels, allLevels, Stripe, rootStripe}
@@ -25,10 +26,10 @@ use Rattle.slim.specs.declared.Slim.{Slim}
 use Rattle.slim.specs.Slim.{rootSlim, MiddleFits}
 use Rattle.visit.specs.Nearer.{Nearer}
 use Rattle.nearest.specs.Waiting.{Stop, stop, waiting, orNext, stopByStop, slotsAt, StopFits, StopsFit, GoesOn, InRows}
-use Rattle.slim.proofs.Slims.{root-at, slim-fits}
-use Rattle.nearest.proofs.GoesOn.{next, alone, ends, nothing-here, visit, fewer}
+use Rattle.slim.proofs.Slims.{root-slim, slim-fits}
+use Rattle.nearest.proofs.GoesOn.{next, first-alone, ends, nothing-here, visit, fewer}
 use Rattle.nearest.proofs.Rows.{waiting-length, waiting-none, waiting-still, waiting-last, waiting-more}
-use Rattle.nearest.proofs.Sides.{ByX, SonsAsked}
+use Rattle.nearest.proofs.Sides.{XWalk, SonsAsked}
 use Rattle.nearest.proofs.Turns.{since-start, or-end}
 
 -- what falls with each turn: a visit takes a slot away and puts at most one stop into the rows
@@ -82,7 +83,7 @@ module _ {W : Stripe → Tree Pair → Walked} {closer : Pair → Pair → Bool}
         let n : size (treeAt c allLevels 0) ≡ 0 = rw (tree-none c allLevels 0 refl) in
         omega arith
 
-  module _ (B : ByX W closer) where
+  module _ (B : XWalk W closer) where
     -- law: the walk is at its end where no stop is left
     pub at-end : s ≡ 0 → wait ≡ 0 → {f : Finding} → f ≡ foundAt c best → seen f v ≡ answer
     at-end e z ef = rw ef (ends W (B .empty) c closer answer best v (rw (waiting-none slots lowers halves wait z) at (next W (B .empty) c closer answer best v (stop s at) ws e (H .goes-on))))
@@ -101,8 +102,8 @@ module _ {W : Stripe → Tree Pair → Walked} {closer : Pair → Pair → Bool}
     module _ (ne : s ≡ 0 → ⊥) {q : Limits} {near far : Stop} (S : SonsAsked W closer q c (allLevels - length (waiting slots lowers halves wait)) (stop s at) near far)
         {p : Pair} (ep : p ≡ pairAt c s) where
       -- law: a slot whose y is too high gives nothing
-      pub too-high : q .y1 < p .y → InRows W closer c answer slots lowers halves wait 0 at best (v + 1)
-      too-high h = record { room = H .room; most = H .most; goes-on = nothing-here W (B .empty) c closer answer best v q s at ws near far (H .goes-on) ne S p ep h }
+      pub row-too-high : q .y1 < p .y → InRows W closer c answer slots lowers halves wait 0 at best (v + 1)
+      row-too-high h = record { room = H .room; most = H .most; goes-on = nothing-here W (B .empty) c closer answer best v q s at ws near far (H .goes-on) ne S p ep h }
 
       module _ (h : p .y ≤ q .y1) {hit : Bool} (eh : hit ≡ inRange (q .x0) (q .x1) p) {b : ℕ} (N : Nearer c closer hit s best b)
           {kept : ℕ} (ek : kept ≡ cond hit 0 wait) where
@@ -128,7 +129,7 @@ module _ {W : Stripe → Tree Pair → Walked} {closer : Pair → Pair → Bool}
         to-near e = record {
           room = H .room;
           most = omega (arith, H .most, fewer-waits);
-          goes-on = alone W (B .empty) c closer answer b (v + 1) near far (waiting slots lowers halves kept) e after-visit;
+          goes-on = first-alone W (B .empty) c closer answer b (v + 1) near far (waiting slots lowers halves kept) e after-visit;
         }
 
         -- law: there is room for the far son's stop
@@ -180,7 +181,7 @@ module _ (W : Stripe → Tree Pair → Walked) (closer : Pair → Pair → Bool)
     room = (a, b, d);
     most = omega arith;
     goes-on = rw (waiting-none slots lowers halves 0 refl) (record {
-      fit = (record { leads = root-asked c o .leads; levels = tree-within c allLevels (rootOf c); height = lowLevels; slim = root-at; room = tree-within c allLevels (rootOf c) }, tt);
+      fit = (record { leads = root-asked c o .leads; levels = tree-within c allLevels (rootOf c); height = lowLevels; slim = root-slim; room = tree-within c allLevels (rootOf c) }, tt);
       some = no-slot c;
       few = let f = root-asked c o .few in omega arith;
       asked = rw (found-none c 0 refl) (since-start closer (orNext (W rootStripe (treeAt c allLevels (rootOf c))) (seen Nothing 0)) ∙ or-end (W rootStripe (treeAt c allLevels (rootOf c))));

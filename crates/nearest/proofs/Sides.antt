@@ -9,12 +9,13 @@ use Rattle.kinds.specs.declared.Finding.the-variants.{Nothing}
 use Rattle.kinds.specs.declared.Limits.{Limits}
 use Rattle.kinds.specs.declared.Pair.{Pair}
 use Rattle.kinds.specs.declared.Walked.{Walked}
-use Rattle.pools.specs.Cells.{pairAt, leftAt, rightAt, sonAt, treeAt}
+use Rattle.pools.specs.Cells.{pairAt, leftAt, rightAt, treeAt}
+use Rattle.pools.specs.Links.{sonAt}
 use Rattle.plain.specs.Plain.{smaller, larger}
 use Rattle.pools.specs.Sound.{Leads}
 use Rattle.kinds.specs.Stripe.{lowLevels, allLevels, Stripe, middle, leftPart, rightPart}
 use Rattle.trees.specs.Tree.{Tree, none, fork, size, Within}
-use Rattle.walks.specs.Walks.{seen, ask, byX, smallestX, largestX}
+use Rattle.walks.specs.Walks.{seen, ask, xRule, smallestX, largestX}
 use Rattle.plain.proofs.Closest.{Ranks, by-smaller, by-larger}
 use Rattle.pools.proofs.Leads.{within-more, tree-fork, leads-son}
 use Rattle.slim.specs.declared.Slim.{Slim}
@@ -25,24 +26,24 @@ use Rattle.slim.proofs.Slims.{left-at, right-at}
 use Rattle.nearest.proofs.Stops.{asked-walk, asked-within, asked-fits, asked-size, left-same, right-same}
 
 -- what both x walks have: nothing on an empty tree, and a closer x that ranks
-pub record ByX (W : Stripe → Tree Pair → Walked) (closer : Pair → Pair → Bool) : Type 0 where
+pub record XWalk (W : Stripe → Tree Pair → Walked) (closer : Pair → Pair → Bool) : Type 0 where
   pub empty : (at : Stripe) → W at none ≡ seen Nothing 0
   pub ranks : Ranks closer
 
 -- two stops are a slot's sons as a walk asks them: the rule gives its answer by theirs, and each has a level less
 pub record SonsAsked (W : Stripe → Tree Pair → Walked) (closer : Pair → Pair → Bool) (q : Limits) (c : List ℕ) (k : ℕ) (here near far : Stop) : Type 0 where
-  pub gives : W (stripeBy (here .at)) (treeBelow c here) ≡ byX closer q (pairAt c (here .slot)) (W (stripeBy (near .at)) (treeBelow c near)) (W (stripeBy (far .at)) (treeBelow c far))
+  pub gives : W (stripeBy (here .at)) (treeBelow c here) ≡ xRule closer q (pairAt c (here .slot)) (W (stripeBy (near .at)) (treeBelow c near)) (W (stripeBy (far .at)) (treeBelow c far))
   pub slots : size (treeBelow c near) + size (treeBelow c far) + 1 ≤ size (treeBelow c here)
   pub near-fits : (j : ℕ) → k ≤ suc j → StopFits c j near
   pub far-fits : (j : ℕ) → k ≤ suc j → StopFits c j far
 
-pub smallest : (q : Limits) → ByX (smallestX q) smaller
+pub smallest-x-walk : (q : Limits) → XWalk (smallestX q) smaller
 unfolding smallestX
-smallest q = record { empty = λ at. refl; ranks = by-smaller }
+smallest-x-walk q = record { empty = λ at. refl; ranks = by-smaller }
 
-pub largest : (q : Limits) → ByX (largestX q) larger
+pub largest-x-walk : (q : Limits) → XWalk (largestX q) larger
 unfolding largestX
-largest q = record { empty = λ at. refl; ranks = by-larger }
+largest-x-walk q = record { empty = λ at. refl; ranks = by-larger }
 
 module _ (c : List ℕ) (k s : ℕ) (at : Slim) (q : Limits) (o : StopFits c k (stop s at)) (ne : s ≡ 0 → ⊥) where
   left-leads : Leads c (leftAt c s) (treeAt c lowLevels (leftAt c s))
@@ -98,13 +99,13 @@ module _ (c : List ℕ) (k s : ℕ) (at : Slim) (q : Limits) (o : StopFits c k (
         ∙ right-same W empty (o .height) at (o .slim) _ (asked-within c (leb (middle (stripeBy at)) (q .x1)) (rightAt c s) (o .height) right-leads (lower .1))
 
   smallest-fork : smallestX q (stripeBy at) (treeAt c allLevels s)
-      ≡ byX smaller q (pairAt c s) (ask (ltb (q .x0) (middle (stripeBy at))) (smallestX q (leftPart (stripeBy at)) (treeAt c lowLevels (leftAt c s))))
+      ≡ xRule smaller q (pairAt c s) (ask (ltb (q .x0) (middle (stripeBy at))) (smallestX q (leftPart (stripeBy at)) (treeAt c lowLevels (leftAt c s))))
       (ask (leb (middle (stripeBy at)) (q .x1)) (smallestX q (rightPart (stripeBy at)) (treeAt c lowLevels (rightAt c s))))
   unfolding smallestX
   smallest-fork = rw here-is
 
   largest-fork : largestX q (stripeBy at) (treeAt c allLevels s)
-      ≡ byX larger q (pairAt c s) (ask (leb (middle (stripeBy at)) (q .x1)) (largestX q (rightPart (stripeBy at)) (treeAt c lowLevels (rightAt c s))))
+      ≡ xRule larger q (pairAt c s) (ask (leb (middle (stripeBy at)) (q .x1)) (largestX q (rightPart (stripeBy at)) (treeAt c lowLevels (rightAt c s))))
       (ask (ltb (q .x0) (middle (stripeBy at))) (largestX q (leftPart (stripeBy at)) (treeAt c lowLevels (leftAt c s))))
   unfolding largestX
   largest-fork = rw here-is
@@ -113,7 +114,7 @@ module _ (c : List ℕ) (k s : ℕ) (at : Slim) (q : Limits) (o : StopFits c k (
     -- law: smallest x asks left, then right
     pub smallest-sons : SonsAsked (smallestX q) smaller q c k (stop s at) (stop l lp) (stop r rp)
     smallest-sons = rw (el, er, elp, erp) (record {
-      gives = smallest-fork ∙ (λ i. byX smaller q (pairAt c s) (left-walk (smallestX q) (smallest q .empty) i) (right-walk (smallestX q) (smallest q .empty) i));
+      gives = smallest-fork ∙ (λ i. xRule smaller q (pairAt c s) (left-walk (smallestX q) (smallest-x-walk q .empty) i) (right-walk (smallestX q) (smallest-x-walk q .empty) i));
       slots = sizes;
       near-fits = left-fits;
       far-fits = right-fits;
@@ -122,7 +123,7 @@ module _ (c : List ℕ) (k s : ℕ) (at : Slim) (q : Limits) (o : StopFits c k (
     -- law: largest x asks right, then left
     pub largest-sons : SonsAsked (largestX q) larger q c k (stop s at) (stop r rp) (stop l lp)
     largest-sons = rw (el, er, elp, erp) (record {
-      gives = largest-fork ∙ (λ i. byX larger q (pairAt c s) (right-walk (largestX q) (largest q .empty) i) (left-walk (largestX q) (largest q .empty) i));
+      gives = largest-fork ∙ (λ i. xRule larger q (pairAt c s) (right-walk (largestX q) (largest-x-walk q .empty) i) (left-walk (largestX q) (largest-x-walk q .empty) i));
       slots = omega (arith, sizes);
       near-fits = right-fits;
       far-fits = left-fits;

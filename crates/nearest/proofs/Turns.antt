@@ -11,7 +11,7 @@ use Rattle.kinds.specs.declared.Limits.{Limits}
 use Rattle.kinds.specs.declared.Pair.{Pair}
 use Rattle.kinds.specs.declared.Walked.{Walked}
 use Rattle.plain.specs.Plain.{inRange, matches, own, closest}
-use Rattle.walks.specs.Walks.{seen, byX}
+use Rattle.walks.specs.Walks.{seen, xRule}
 use Rattle.plain.proofs.Closest.{Ranks, closest-nothing, closest-assoc}
 use Rattle.kinds.proofs.Tests.{on}
 use Rattle.nearest.specs.Waiting.{orNext, since}
@@ -49,15 +49,15 @@ since-start closer w = same (closest-nothing closer (w .finding)) (omega arith)
 
 module _ (q : Limits) (closer : Pair → Pair → Bool) (p : Pair) (a b rest : Walked) (f : Finding) (v : ℕ) where
   -- law: a slot whose y is too high gives nothing, at one visit
-  pub too-high : q .y1 < p .y → since closer f v (orNext (byX closer q p a b) rest) ≡ since closer f (v + 1) rest
+  pub too-high : q .y1 < p .y → since closer f v (orNext (xRule closer q p a b) rest) ≡ since closer f (v + 1) rest
   too-high h = rw (lt-ltb (q .y1) (p .y) h) (same refl (omega arith))
 
   module _ (R : Ranks closer) (h : p .y ≤ q .y1) where
-    gives : (o : Finding) → own (matches q) p ≡ o → byX closer q p a b ≡ seen (closest closer (orNext a b .finding) o) (orNext a b .visits + 1)
+    gives : (o : Finding) → own (matches q) p ≡ o → xRule closer q p a b ≡ seen (closest closer (orNext a b .finding) o) (orNext a b .visits + 1)
     gives o e = rw (le-ltb (q .y1) (p .y) h, e)
 
     -- a slot that is no hit: what its sons give in turn, at one visit more
-    missed : own (matches q) p ≡ Nothing → since closer f v (orNext (byX closer q p a b) rest) ≡ since closer f (v + 1) (orNext a (orNext b rest))
+    missed : own (matches q) p ≡ Nothing → since closer f v (orNext (xRule closer q p a b) rest) ≡ since closer f (v + 1) (orNext a (orNext b rest))
     missed e =
         ap (λ w. since closer f v (orNext w rest)) (gives Nothing e)
         ∙ (go (orNext a b .finding) (orNext a b .visits) ∙ ap (λ w. since closer f (v + 1) w) (or-assoc a b rest))
@@ -73,14 +73,14 @@ module _ (q : Limits) (closer : Pair → Pair → Bool) (p : Pair) (a b rest : W
     ends-there (Found r) n = on (closer p r) (λ t. rw t (same refl (omega arith))) (λ t. rw t (same refl (omega arith)))
 
     taken : own (matches q) p ≡ Found p
-        → since closer f v (orNext (byX closer q p a b) rest) ≡ since closer (closest closer (Found p) f) (v + 1) (orNext a b)
+        → since closer f v (orNext (xRule closer q p a b) rest) ≡ since closer (closest closer (Found p) f) (v + 1) (orNext a b)
     taken e =
         ap (λ w. since closer f v (orNext w rest)) (gives (Found p) e)
         ∙ (ap (λ w. since closer f v w) (ends-there (orNext a b .finding) (orNext a b .visits + 1))
         ∙ same (closest-assoc (matches q) R (orNext a b .finding) (Found p) f) (omega arith))
 
     -- law: a slot's own pair joins what was found so far, and its sons are next; behind a hit nothing waits any more
-    pub visited : (hit : Bool) → hit ≡ inRange (q .x0) (q .x1) p → since closer f v (orNext (byX closer q p a b) rest)
+    pub visited : (hit : Bool) → hit ≡ inRange (q .x0) (q .x1) p → since closer f v (orNext (xRule closer q p a b) rest)
         ≡ since closer (closest closer (cond hit (Found p) Nothing) f) (v + 1) (orNext a (orNext b (cond hit (seen Nothing 0) rest)))
     visited true e = taken (rw (← e, le-leb (p .y) (q .y1) h)) ∙ ap (λ w. since closer (closest closer (Found p) f) (v + 1) (orNext a w)) (sym (or-end b))
     visited false e = missed (rw (← e))

@@ -1,4 +1,5 @@
--- The pairs by ascending x: the same pairs, each x larger than the one before; so the smallest x comes first, and then the rest.
+-- The pairs by ascending x: the same pairs, each x larger than the one before; so the smallest x comes first, and then the rest. That each is
+-- larger assumes that the x differ.
 use Prim.Native.Nat.{ℕ, suc, _+_, _≤_}
 use mathlib.Core.Path.{_≡_, refl, sym, ap, _∙_}
 use mathlib.Core.Logic.{_≢_, _↔_, _⊎_, inl, inr, ⊎-elim}

@@ -1,4 +1,4 @@
--- Bytes stored one after the other from a place on: words, rows, the whole book.
+-- Bytes stored one after the other from a place on: words, rows, the whole book. The whole book assumes room for it.
 use Prim.Native.Nat.{ℕ, suc, _+_, _*_, _/_, _%_, _≤_}
 use mathlib.Core.Path.{_≡_, refl, sym, _∙_}
 use mathlib.Core.List.{List, [], _∷_, _++_}

@@ -1,4 +1,4 @@
--- Lists with the same pairs pass the same tests, and are of one length where no x stands twice.
+-- Lists with the same pairs pass the same tests, and are of one length where no x stands twice. Nothing else is assumed.
 use Prim.Native.Nat.{ℕ}
 use mathlib.Core.Path.{_≡_, sym, _∙_}
 use mathlib.Core.Bool.{true, false}

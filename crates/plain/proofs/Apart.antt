@@ -1,4 +1,4 @@
--- Lists of which no number stands twice: put together, taken apart, and searched.
+-- Lists of which no number stands twice: put together, taken apart, and searched. Nothing else is assumed of them.
 use Prim.Native.Nat.{ℕ}
 use mathlib.Core.Path.{_≡_, refl, sym, ap, _∙_}
 use mathlib.Core.Logic.{_≢_}

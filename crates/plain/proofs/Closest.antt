@@ -1,4 +1,5 @@
--- Which of two findings is the closer, and what a scan keeps by it.
+-- Which of two findings is the closer, and what a scan keeps by it. What a scan keeps assumes that the closer of two pairs ranks them (`Ranks`),
+-- as in each of the three questions.
 use mathlib.Core.Path.{_≡_, refl, sym, ap, _∙_}
 use mathlib.Core.Logic.{_≢_, _⊎_, inl, inr}
 use mathlib.Core.Bool.{Bool, true, false, not}

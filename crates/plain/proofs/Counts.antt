@@ -1,4 +1,4 @@
--- What a list weighs does not depend on its order, where the x differ; and so for how many of its pairs pass a test.
+-- What a list weighs does not depend on its order, where the x differ; and so for how many of its pairs pass a test. Nothing else is assumed.
 use Prim.Native.Nat.{ℕ, _+_}
 use mathlib.Core.Path.{_≡_, refl, sym, ap, _∙_}
 use mathlib.Core.Logic.{_≢_, ⊎-elim}
@@ -8,8 +8,13 @@ use native.Mathlib.Omega.{arith}
 use lib.ListN.{length}
 use Rattle.kinds.specs.declared.Pair.{Pair}
 use Rattle.kinds.proofs.Tests.{on}
-use Rattle.plain.specs.Plain.{those, Alike, total, Differs, Apart}
+use Rattle.plain.specs.Plain.{those, Alike, Differs, Apart}
 use Rattle.plain.proofs.Apart.{differs-mem}
+
+-- what the members of a list weigh together
+abbrev pub total : {A : Type 0} → (A → ℕ) → List A → ℕ
+total w [] = 0
+total w (p ∷ ps) = w p + total w ps
 
 -- p stands in the list, between two others
 data Split {A : Type 0} (p : A) : List A → Type 0 where

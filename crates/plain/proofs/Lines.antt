@@ -1,4 +1,5 @@
 -- The codes of each call's lines, in 01's order: 1, 2, 9, 3, 4, 5, 6, 7. The check's 1 and 2 come before them; the book's 11 is in pages.
+-- Nothing is assumed of the list.
 use Prim.Native.Nat.{ℕ}
 use mathlib.Core.Path.{_≡_, refl}
 use mathlib.Core.List.{List, [], _∷_, map}

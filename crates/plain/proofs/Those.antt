@@ -1,4 +1,5 @@
--- The pairs of a list for which a test holds: which they are, and that each stands there once.
+-- The pairs of a list for which a test holds: which they are, and that each stands there once. That each stands there once assumes that the x
+-- differ.
 use Prim.Native.Nat.{ℕ}
 use mathlib.Core.Path.{_≡_, refl, sym, ap, _∙_}
 use mathlib.Core.Logic.{_↔_, ⊎-elim}

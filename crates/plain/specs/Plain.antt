@@ -1,5 +1,5 @@
 -- A book as a plain list of pairs, gone through from top to bottom: what each question finds. Nothing of the tree stands here.
-use Prim.Native.Nat.{ℕ, _+_}
+use Prim.Native.Nat.{ℕ}
 use mathlib.Core.Path.{_≡_}
 use mathlib.Core.Logic.{_≢_, _↔_}
 use mathlib.Core.Bool.{Bool, true, false, cond, _&&_, _||_}
@@ -86,11 +86,6 @@ NoMatch ok ps = (p : Pair) → List·Memᴰ p ps → ok p ≡ false
 -- the same members stand in both lists, in whatever order
 abbrev pub Alike : {A : Type 0} → List A → List A → Type 0
 Alike {A} ps qs = (p : A) → List·Memᴰ p ps ↔ List·Memᴰ p qs
-
--- what the members of a list weigh together
-abbrev pub total : {A : Type 0} → (A → ℕ) → List A → ℕ
-total w [] = 0
-total w (p ∷ ps) = w p + total w ps
 
 -- x is none of the list's numbers
 abbrev pub Differs : ℕ → List ℕ → Type 0

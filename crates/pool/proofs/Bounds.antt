@@ -8,8 +8,10 @@ use borrow.Author.Tests.{not-false}
 use lib.ListN.{length, length-take}
 use Rattle.kinds.specs.declared.Answer.{Answer}
 use Rattle.kinds.specs.declared.Limits.{Limits}
-use Rattle.kinds.specs.Answer.{five, refused, listedBy}
-use Rattle.kinds.specs.Promise.{Line, Result, Promise, NoLine, byLines, given}
+use Rattle.kinds.specs.Answer.{refused}
+use Rattle.kinds.specs.Making.{listedBy}
+use Rattle.kinds.specs.Promise.{Line, Result, Promise, byLines, given}
+use Rattle.kinds.proofs.Tables.{NoLine}
 use Rattle.kinds.specs.Stripe.{rootStripe}
 use Rattle.kinds.proofs.Numbers.{five-visits, five-count, refused-numbers}
 use Rattle.kinds.proofs.Tests.{on}
@@ -27,7 +29,7 @@ use Rattle.pools.proofs.InTree.{tree-well}
 use Rattle.sound.specs.Promises.{behindCheck}
 use Rattle.promises.specs.Promises.{smallestXAsked, largestXAsked, smallestYAsked, listingAsked}
 use Rattle.promises.proofs.Asked.{matches-count}
-use Rattle.pool.specs.Showing.{FewVisits}
+use Rattle.pool.specs.Showing.{VisitsWithin, FewVisits}
 
 -- what a table answers has a property that refusals have, if what it makes has it where no line holds
 table-has : (P : Answer → Type 0) → ((k : ℕ) → P (refused k)) → (ls : List Line) (c out : List ℕ) (made : Result) → (NoLine ls → P (made .answer))
@@ -42,19 +44,15 @@ pub entry-has : (P : Answer → Type 0) → ((k : ℕ) → P (refused k)) → (Q
     → P (given (behindCheck c Q) c out .answer)
 entry-has P r Q c out h = table-has P r (behindCheck c Q .lines) c out (Q .made) (λ n. h (test-sound c (not-false _ (n .1 .0))))
 
--- at most so many visits are reported
-abbrev pub Within : ℕ → Answer → Type 0
-Within n a = five a .visits ≤ n
-
-refused-within : (n k : ℕ) → Within n (refused k)
+refused-within : (n k : ℕ) → VisitsWithin n (refused k)
 refused-within n k = rw (refused-numbers k) (omega arith)
 
-reported : (a : Answer) (n : ℕ) → a .visits ≤ n → Within n a
+reported : (a : Answer) (n : ℕ) → a .visits ≤ n → VisitsWithin n a
 reported a n h = let k = five-visits a in omega arith
 
 -- law: what a call reports is bounded where the visits of what it makes are, on a sound pool
-pub entry-bound : (Q : Promise) (c out : List ℕ) (n : ℕ) → (Sound c → Q .made .answer .visits ≤ n) → Within n (given (behindCheck c Q) c out .answer)
-entry-bound Q c out n h = entry-has (Within n) (refused-within n) Q c out (λ s. reported (Q .made .answer) n (h s))
+pub entry-bound : (Q : Promise) (c out : List ℕ) (n : ℕ) → (Sound c → Q .made .answer .visits ≤ n) → VisitsWithin n (given (behindCheck c Q) c out .answer)
+entry-bound Q c out n h = entry-has (VisitsWithin n) (refused-within n) Q c out (λ s. reported (Q .made .answer) n (h s))
 
 refused-few : (k : ℕ) → FewVisits (refused k)
 refused-few k = rw (refused-numbers k) (omega arith)
@@ -65,16 +63,16 @@ counted n more v h = let k = five-visits (listedBy n more v) in rw (five-count n
 
 module _ (c : List ℕ) where
   -- law: smallest and largest x; 01 asks for 189
-  pub smallestX-bound : (q : Limits) → Within 127 (given (behindCheck c (smallestXAsked c q)) c [] .answer)
+  pub smallestX-bound : (q : Limits) → VisitsWithin 127 (given (behindCheck c (smallestXAsked c q)) c [] .answer)
   unfolding smallestXAsked plainSmallestX
   smallestX-bound q = entry-bound (smallestXAsked c q) c [] 127 (λ s. smallestX-visits q (treeOf c) (tree-well s))
 
-  pub largestX-bound : (q : Limits) → Within 127 (given (behindCheck c (largestXAsked c q)) c [] .answer)
+  pub largestX-bound : (q : Limits) → VisitsWithin 127 (given (behindCheck c (largestXAsked c q)) c [] .answer)
   unfolding largestXAsked plainLargestX
   largestX-bound q = entry-bound (largestXAsked c q) c [] 127 (λ s. largestX-visits q (treeOf c) (tree-well s))
 
   -- law: smallest y
-  pub smallestY-bound : (x0 x1 : ℕ) → Within 127 (given (behindCheck c (smallestYAsked c x0 x1)) c [] .answer)
+  pub smallestY-bound : (x0 x1 : ℕ) → VisitsWithin 127 (given (behindCheck c (smallestYAsked c x0 x1)) c [] .answer)
   unfolding smallestYAsked plainSmallestY
   smallestY-bound x0 x1 = entry-bound (smallestYAsked c x0 x1) c [] 127 (λ s. smallestY-visits x0 x1 (treeOf c) (tree-well s))
 

@@ -9,9 +9,9 @@ use native.Mathlib.Omega.{arith}
 use borrow.Author.Tests.{eqb-false, ne-eqb, not-false}
 use Rattle.kinds.specs.declared.Pair.{Pair}
 use Rattle.kinds.specs.Answer.{five, numbersOf}
-use Rattle.kinds.specs.Promise.{Result, NoLine, given, accepted}
+use Rattle.kinds.specs.Promise.{Result, given, accepted}
 use Rattle.kinds.specs.Stripe.{rootStripe}
-use Rattle.kinds.proofs.Tables.{Decided, decided, none-holds, refused-same, accepted-made, given-either}
+use Rattle.kinds.proofs.Tables.{NoLine, Decided, table-decided, none-holds, refused-same, accepted-made, given-either}
 use Rattle.kinds.proofs.Tests.{and-false}
 use Rattle.plain.specs.Books.{plainInsert, plainDelete}
 use Rattle.plain.specs.Plain.{hasX, has}
@@ -36,19 +36,19 @@ pub record Exits (c : List ℕ) (p : Pair) : Type 0 where
 
 module _ (c : List ℕ) (p : Pair) where
   -- insert, and delete, on any cells
-  abbrev pub inserts : Result
-  inserts = given (behindCheck c (insertion c p)) c []
+  abbrev pub insertGives : Result
+  insertGives = given (behindCheck c (insertion c p)) c []
 
-  abbrev pub deletes : Result
-  deletes = given (behindCheck c (deletion c p)) c []
+  abbrev pub deleteGives : Result
+  deleteGives = given (behindCheck c (deletion c p)) c []
 
-  pub insert-view : Decided (behindCheck c (insertion c p) .lines) c [] (insertion c p .made) inserts
+  pub insert-view : Decided (behindCheck c (insertion c p) .lines) c [] (insertion c p .made) insertGives
   unfolding insertion plainInsert
-  insert-view = decided _ c [] _ (omega arith, (omega arith, (omega arith, (omega arith, tt))))
+  insert-view = table-decided _ c [] _ (omega arith, (omega arith, (omega arith, (omega arith, tt))))
 
-  pub delete-view : Decided (behindCheck c (deletion c p) .lines) c [] (deletion c p .made) deletes
+  pub delete-view : Decided (behindCheck c (deletion c p) .lines) c [] (deletion c p .made) deleteGives
   unfolding deletion plainDelete
-  delete-view = decided _ c [] _ (omega arith, (omega arith, (omega arith, (omega arith, tt))))
+  delete-view = table-decided _ c [] _ (omega arith, (omega arith, (omega arith, (omega arith, tt))))
 
   -- where no line holds
   pub insert-enters : NoLine (behindCheck c (insertion c p) .lines) → Enters c p
@@ -66,14 +66,14 @@ module _ (c : List ℕ) (p : Pair) where
       record { sound = s; member = has-mem s p (not-false _ f) }
 
   -- on a sound pool, what no line refuses is accepted
-  pub insert-made : Enters c p → inserts ≡ insertion c p .made
+  pub insert-made : Enters c p → insertGives ≡ insertion c p .made
   unfolding insertion plainInsert
   insert-made e =
       let s = e .sound in
       let n = no-line s in
       none-holds c [] _ _ (n .0, (n .1 .0, (of-new s (p .x) (e .new), (full-is s ∙ ne-eqb (freeOf c) 0 (e .room), tt))))
 
-  pub delete-made : Exits c p → deletes ≡ deletion c p .made
+  pub delete-made : Exits c p → deleteGives ≡ deletion c p .made
   unfolding deletion plainDelete
   delete-made e =
       let s = e .sound in
@@ -90,32 +90,32 @@ module _ (c : List ℕ) (p : Pair) where
       )
 
   -- law: the pool is sound again
-  pub insert-sound : p .x < 4294967296 → Sound c → Sound (inserts .cells)
+  pub insert-sound : p .x < 4294967296 → Sound c → Sound (insertGives .cells)
   unfolding insertion
   insert-sound b s = given-either Sound insert-view s (λ n. let e = insert-enters n in inserted-sound (e .sound) p (e .new) b (e .room))
 
-  pub delete-sound : Sound c → Sound (deletes .cells)
+  pub delete-sound : Sound c → Sound (deleteGives .cells)
   unfolding deletion
   delete-sound s = given-either Sound delete-view s (λ n. let e = delete-exits n in deleted-sound (e .sound) p (e .member))
 
   -- what an accepted change may rely on, and leaves
-  pub insert-accepted : accepted inserts ≡ true → Enters c p × (inserts ≡ insertion c p .made)
+  pub insert-accepted : accepted insertGives ≡ true → Enters c p × (insertGives ≡ insertion c p .made)
   insert-accepted t = let m = accepted-made insert-view t in (insert-enters (m .0), m .1)
 
-  pub delete-accepted : accepted deletes ≡ true → Exits c p × (deletes ≡ deletion c p .made)
+  pub delete-accepted : accepted deleteGives ≡ true → Exits c p × (deleteGives ≡ deletion c p .made)
   delete-accepted t = let m = accepted-made delete-view t in (delete-exits (m .0), m .1)
 
   -- law: a refused one leaves every cell
-  pub insert-refused : accepted inserts ≡ false → inserts .cells ≡ c
+  pub insert-refused : accepted insertGives ≡ false → insertGives .cells ≡ c
   unfolding five numbersOf insertion plainInsert
   insert-refused f = refused-same insert-view refl f
 
-  pub delete-refused : accepted deletes ≡ false → deletes .cells ≡ c
+  pub delete-refused : accepted deleteGives ≡ false → deleteGives .cells ≡ c
   unfolding five numbersOf deletion plainDelete
   delete-refused f = refused-same delete-view refl f
 
   -- law: an accepted pair is stored next, with those that were
-  pub insert-stored : p .x < 4294967296 → accepted inserts ≡ true → (q : Pair) → List·Memᴰ q (stored (inserts .cells)) ↔ ((q ≡ p) ⊎ List·Memᴰ q (stored c))
+  pub insert-stored : p .x < 4294967296 → accepted insertGives ≡ true → (q : Pair) → List·Memᴰ q (stored (insertGives .cells)) ↔ ((q ≡ p) ⊎ List·Memᴰ q (stored c))
   unfolding insertion
   insert-stored b t q =
       let m = insert-accepted t in
@@ -123,13 +123,13 @@ module _ (c : List ℕ) (p : Pair) where
       rw (m .1) (inserted-stored (e .sound) p (e .new) b (e .room) q)
 
   -- law: a deleted pair is not, and all others are
-  pub delete-stored : accepted deletes ≡ true → (q : Pair) → List·Memᴰ q (stored c) ↔ ((q ≡ p) ⊎ List·Memᴰ q (stored (deletes .cells)))
+  pub delete-stored : accepted deleteGives ≡ true → (q : Pair) → List·Memᴰ q (stored c) ↔ ((q ≡ p) ⊎ List·Memᴰ q (stored (deleteGives .cells)))
   unfolding deletion
   delete-stored t q =
       let m = delete-accepted t in
       rw (m .1) (deleted-stored (m .0 .sound) p (m .0 .member) q)
 
-  pub delete-gone : accepted deletes ≡ true → (q : Pair) → List·Memᴰ q (stored (deletes .cells)) → p .x ≢ q .x
+  pub delete-gone : accepted deleteGives ≡ true → (q : Pair) → List·Memᴰ q (stored (deleteGives .cells)) → p .x ≢ q .x
   unfolding deletion
   delete-gone t q k =
       let m = delete-accepted t in

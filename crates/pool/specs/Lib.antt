@@ -1,2 +1,2 @@
--- What a listing shows, and how many slots it may visit.
+-- What a listing shows, and how many slots a question and a listing may visit.
 pub mod Showing

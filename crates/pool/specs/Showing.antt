@@ -1,4 +1,4 @@
--- What a listing shows of a sound pool, and how many slots a listing may visit.
+-- What a listing shows of a sound pool, and how many slots a question and a listing may visit.
 use Prim.Native.Nat.{ℕ, _+_, _*_, _≤_}
 use mathlib.Core.Path.{_≡_}
 use mathlib.Core.Logic.{_↔_}
@@ -21,6 +21,10 @@ pub record Shows (c out : List ℕ) (Asked : Pair → Type 0) (w : Result) : Typ
   pub once : Apart (map (λ p. p .x) all)
   pub lent : w .lent ≡ written (take (roomOf out) all) out
   pub outcome : w .answer .outcome ≡ Listed (length (take (roomOf out) all)) (ltb (roomOf out) (length all))
+
+-- the bound on a question for one pair: at most so many visits are reported
+abbrev pub VisitsWithin : ℕ → Answer → Type 0
+VisitsWithin n a = five a .visits ≤ n
 
 -- the bound on a listing: at most 127 visits, and two more for each pair listed
 abbrev pub FewVisits : Answer → Type 0

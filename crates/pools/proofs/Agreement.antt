@@ -1,4 +1,5 @@
--- Pools that agree on every slot, the header being slot 0, are equal, and a link leads to the same tree where they agree on its slots.
+-- Pools that agree on every slot, the header being slot 0, are equal, and a link leads to the same tree where they agree on its slots. It
+-- assumes pools of one length; what is written and then read assumes that the slot's cells are there.
 use Prim.Native.Nat.{ℕ, zero, suc, _+_, _*_, _-_, _/_, _≤_, _<_}
 use mathlib.Core.Path.{_≡_, refl, sym, ap, _∙_, subst}
 use mathlib.Core.Logic.{_≢_, ⊎-elim}
@@ -7,8 +8,10 @@ use native.Mathlib.Omega.{arith}
 use lib.ListN.{length, getD, set, length-set}
 use lib.Seq.{getD-set-same, getD-set-other, set-getD, ext-getD}
 use Rattle.kinds.specs.declared.Pair.{Pair}
-use Rattle.trees.specs.Tree.{Tree, none, fork, Stands, at-top, at-left, at-right}
-use Rattle.pools.specs.Cells.{perSlot, slotsOf, Fits, pairAt, leftAt, rightAt, putHeader, putPair, putLinks, putFree, freeMark}
+use Rattle.trees.specs.Tree.{Tree, none, fork}
+use Rattle.trees.specs.Standing.{Stands, at-top, at-left, at-right}
+use Rattle.pools.specs.Cells.{perSlot, slotsOf, pairAt, leftAt, rightAt, putHeader, putPair, putLinks, putFree, freeMark}
+use Rattle.pools.specs.Links.{Fits}
 use Rattle.pools.specs.Sound.{Pool, Slot, Leads, nowhere, slot, Free, Chain, ends, next}
 use Rattle.pools.specs.Laid.{top}
 use Rattle.kinds.proofs.Order.{pair-ext}
@@ -62,14 +65,14 @@ pub slot-as : {c : List ℕ} {s a b : ℕ} {p : Pair} {l r : Tree Pair} → Slot
 slot-as {c} {s} {l = l} {r = r} o e f g L R = subst (λ q. Leads c s (fork s q l r)) e (slot {s = s} {l = l} {r = r} o (rw f L) (rw g R))
 
 -- and what is read at a slot
-pub record Reads (c : List ℕ) (s i : ℕ) (p : Pair) (l r : Tree Pair) : Type 0 where
+pub record ReadsSlot (c : List ℕ) (s i : ℕ) (p : Pair) (l r : Tree Pair) : Type 0 where
   pub here : s ≡ i
   pub slot : Slot c i
   pub pair : pairAt c i ≡ p
   pub left : Leads c (leftAt c i) l
   pub right : Leads c (rightAt c i) r
 
-reads-of : {c : List ℕ} {s i : ℕ} {p : Pair} {t l r : Tree Pair} → Leads c s t → t ≡ fork i p l r → Reads c s i p l r
+reads-of : {c : List ℕ} {s i : ℕ} {p : Pair} {t l r : Tree Pair} → Leads c s t → t ≡ fork i p l r → ReadsSlot c s i p l r
 reads-of nowhere e = let z : _≡_ {A = ℕ} 0 1 = cc in absurd (omega arith)
 reads-of {c} {i = i} {p = p} {l = l} {r = r} (slot {s = s} {l = a} {r = b} o L R) e =
     let es : s ≡ i = cc in
@@ -78,7 +81,7 @@ reads-of {c} {i = i} {p = p} {l = l} {r = r} (slot {s = s} {l = a} {r = b} o L R
     let er : b ≡ r = cc in
     record { here = es; slot = rw es at o; pair = rw es at ep; left = rw (es, el) at L; right = rw (es, er) at R }
 
-pub leads-reads : {c : List ℕ} {s i : ℕ} {p : Pair} {l r : Tree Pair} → Leads c s (fork i p l r) → Reads c s i p l r
+pub leads-reads : {c : List ℕ} {s i : ℕ} {p : Pair} {l r : Tree Pair} → Leads c s (fork i p l r) → ReadsSlot c s i p l r
 leads-reads h = reads-of h refl
 
 pub leads-top : {c : List ℕ} {s : ℕ} {t : Tree Pair} → Leads c s t → s ≡ top t
@@ -129,15 +132,15 @@ pub agree-outside : {c d : List ℕ} {s v : ℕ} (t : Tree Pair) → Pool c → 
 agree-outside t p e h k top out = agree-all p e top (λ u o. ⊎-elim (λ m. leads-agree t h k m) (λ n. out u o n) (stands u t))
 
 -- d differs from c at slot s alone
-pub record Wrote (c d : List ℕ) (s : ℕ) : Type 0 where
+pub record WroteSlot (c d : List ℕ) (s : ℕ) : Type 0 where
   pub long : length d ≡ length c
   pub rest : (u : ℕ) → u ≢ s → Agree c d u
 
-pub wrote-then : {c d e : List ℕ} {s : ℕ} → Wrote c d s → Wrote d e s → Wrote c e s
+pub wrote-then : {c d e : List ℕ} {s : ℕ} → WroteSlot c d s → WroteSlot d e s → WroteSlot c e s
 wrote-then h k = record { long = k .long ∙ h .long; rest = λ u n. agree-then (h .rest u n) (k .rest u n) }
 
 module _ (c : List ℕ) (s : ℕ) where
-  wrote-cell : (i v : ℕ) → s * perSlot ≤ i → i < s * perSlot + perSlot → Wrote c (set c i v) s
+  wrote-cell : (i v : ℕ) → s * perSlot ≤ i → i < s * perSlot + perSlot → WroteSlot c (set c i v) s
   wrote-cell i v a b = record {
     long = length-set c i v;
     rest = λ u n. record {
@@ -149,7 +152,7 @@ module _ (c : List ℕ) (s : ℕ) where
 
 -- law: a pair written at a slot is read there, and nothing else changes
 module _ (c : List ℕ) (s : ℕ) (p : Pair) where
-  pub pair-wrote : Wrote c (putPair c s p) s
+  pub pair-wrote : WroteSlot c (putPair c s p) s
   pair-wrote =
       wrote-then (wrote-cell c s (s * perSlot) (p .x) (omega arith) (omega arith))
       (wrote-cell (set c (s * perSlot) (p .x)) s (s * perSlot + 1) (p .y) (omega arith) (omega arith))
@@ -173,7 +176,7 @@ module _ (c : List ℕ) (s : ℕ) (p : Pair) where
 
 -- law: so are links
 module _ (c : List ℕ) (s l r : ℕ) where
-  pub links-wrote : Wrote c (putLinks c s l r) s
+  pub links-wrote : WroteSlot c (putLinks c s l r) s
   links-wrote =
       wrote-then (wrote-cell c s (s * perSlot + 2) l (omega arith) (omega arith))
       (wrote-cell (set c (s * perSlot + 2) l) s (s * perSlot + 3) r (omega arith) (omega arith))
@@ -193,15 +196,15 @@ module _ (c : List ℕ) (s l r : ℕ) where
   links-right h = let e = length-set c (s * perSlot + 2) l in getD-set-same (set c (s * perSlot + 2) l) (s * perSlot + 3) r 0 (omega arith)
 
 -- slot s holds this; slot 0: the mark and the root slot, the first free slot, the number of pairs
-pub record Holds (c : List ℕ) (s : ℕ) (p : Pair) (l r : ℕ) : Type 0 where
+pub record SlotHolds (c : List ℕ) (s : ℕ) (p : Pair) (l r : ℕ) : Type 0 where
   pub pair : pairAt c s ≡ p
   pub left : leftAt c s ≡ l
   pub right : rightAt c s ≡ r
 
-pub holds-agree : {c d : List ℕ} {s : ℕ} {p : Pair} {l r : ℕ} → Holds c s p l r → Agree c d s → Holds d s p l r
+pub holds-agree : {c d : List ℕ} {s : ℕ} {p : Pair} {l r : ℕ} → SlotHolds c s p l r → Agree c d s → SlotHolds d s p l r
 holds-agree h a = record { pair = a .pair ∙ h .pair; left = a .left ∙ h .left; right = a .right ∙ h .right }
 
-pub agree-holds : {c d : List ℕ} {s : ℕ} {p : Pair} {l r : ℕ} → Holds c s p l r → Holds d s p l r → Agree c d s
+pub agree-holds : {c d : List ℕ} {s : ℕ} {p : Pair} {l r : ℕ} → SlotHolds c s p l r → SlotHolds d s p l r → Agree c d s
 agree-holds h k = record { pair = k .pair ∙ sym (h .pair); left = k .left ∙ sym (h .left); right = k .right ∙ sym (h .right) }
 
 -- a slot written whole, as `putFree`, `putHeader` (slot 0) and `lay` write it
@@ -210,10 +213,10 @@ putSlot c s p l r = putLinks (putPair c s p) s l r
 
 -- law: so is a whole slot
 module _ (c : List ℕ) (s : ℕ) (p : Pair) (l r : ℕ) where
-  pub slot-wrote : Wrote c (putSlot c s p l r) s
+  pub slot-wrote : WroteSlot c (putSlot c s p l r) s
   slot-wrote = wrote-then (pair-wrote c s p) (links-wrote (putPair c s p) s l r)
 
-  pub slot-read : Fits c s → Holds (putSlot c s p l r) s p l r
+  pub slot-read : Fits c s → SlotHolds (putSlot c s p l r) s p l r
   slot-read h =
       let e = pair-wrote c s p .long in
       let f : Fits (putPair c s p) s = omega arith in
@@ -224,23 +227,23 @@ module _ (c : List ℕ) (s : ℕ) (p : Pair) (l r : ℕ) where
       }
 
 -- law: the free form
-pub free-wrote : (c : List ℕ) (s v : ℕ) → Wrote c (putFree c s v) s
+pub free-wrote : (c : List ℕ) (s v : ℕ) → WroteSlot c (putFree c s v) s
 free-wrote c s v = slot-wrote c s (record { x = 0; y = 0 }) freeMark v
 
-pub free-read : (c : List ℕ) (s v : ℕ) → Fits c s → Holds (putFree c s v) s (record { x = 0; y = 0 }) freeMark v
+pub free-read : (c : List ℕ) (s v : ℕ) → Fits c s → SlotHolds (putFree c s v) s (record { x = 0; y = 0 }) freeMark v
 free-read c s v h = slot-read c s (record { x = 0; y = 0 }) freeMark v h
 
-pub holds-free : {c : List ℕ} {s v : ℕ} → Holds c s (record { x = 0; y = 0 }) freeMark v → Free c s
+pub holds-free : {c : List ℕ} {s v : ℕ} → SlotHolds c s (record { x = 0; y = 0 }) freeMark v → Free c s
 holds-free h = record { x = ap (λ q. q .x) (h .pair); y = ap (λ q. q .y) (h .pair); left = h .left }
 
-pub free-holds : {c : List ℕ} {s : ℕ} → Free c s → Holds c s (record { x = 0; y = 0 }) freeMark (rightAt c s)
+pub free-holds : {c : List ℕ} {s : ℕ} → Free c s → SlotHolds c s (record { x = 0; y = 0 }) freeMark (rightAt c s)
 free-holds f = record { pair = pair-ext (f .x) (f .y); left = f .left; right = refl }
 
 -- law: the header
-pub header-wrote : (c : List ℕ) (root free count : ℕ) → Wrote c (putHeader c root free count) 0
+pub header-wrote : (c : List ℕ) (root free count : ℕ) → WroteSlot c (putHeader c root free count) 0
 header-wrote c root free count = slot-wrote c 0 (record { x = 1; y = root }) free count
 
-pub header-read : (c : List ℕ) (root free count : ℕ) → Fits c 0 → Holds (putHeader c root free count) 0 (record { x = 1; y = root }) free count
+pub header-read : (c : List ℕ) (root free count : ℕ) → Fits c 0 → SlotHolds (putHeader c root free count) 0 (record { x = 1; y = root }) free count
 header-read c root free count h = slot-read c 0 (record { x = 1; y = root }) free count h
 
 -- law: what stands at a slot already, written again, changes nothing

@@ -1,4 +1,5 @@
--- A change writes the header and the slots of one tree: when the pool is sound afterwards, and when a second change takes the first back.
+-- A change writes the header and the slots of one tree: when the pool is sound afterwards, and when a second change takes the first back. It
+-- assumes slots that differ and are the pool's; and, for a sound pool, a well-formed tree and a chain of all the other slots.
 use Prim.Native.Nat.{ℕ, _+_}
 use mathlib.Core.Path.{_≡_, refl, sym, ap, _∙_}
 use mathlib.Core.Logic.{⊎-elim}
@@ -7,7 +8,8 @@ use native.Mathlib.Omega.{arith}
 use lib.ListN.{length}
 use Rattle.kinds.specs.declared.Pair.{Pair}
 use Rattle.kinds.specs.Stripe.{rootStripe}
-use Rattle.trees.specs.Tree.{Tree, size, Well, itself, Stands, Distinct}
+use Rattle.trees.specs.Tree.{Tree, size, Well, itself}
+use Rattle.trees.specs.Standing.{Stands, Distinct}
 use Rattle.pools.specs.Cells.{slotsOf, rootOf, freeOf, countOf, putHeader}
 use Rattle.pools.specs.Sound.{Pool, Slot, Leads, Chain, Sound}
 use Rattle.pools.specs.Laid.{top, lay}
@@ -16,13 +18,13 @@ use Rattle.trees.proofs.Clauses.{stripes-of, ordered-of}
 use Rattle.trees.proofs.Members.{well-apart}
 use Rattle.trees.proofs.Levels.{root-levels}
 use Rattle.trees.proofs.Standing.{stands}
-use Rattle.pools.proofs.Agreement.{Agree, agree-back, agree-then, Holds, holds-agree, agree-holds, same-pool, same-slot, leads-top, agree-outside, header-wrote, header-read, header-fits}
+use Rattle.pools.proofs.Agreement.{Agree, agree-back, agree-then, SlotHolds, holds-agree, agree-holds, same-pool, same-slot, leads-top, agree-outside, header-wrote, header-read, header-fits}
 use Rattle.pools.proofs.Laying.{lay-length, lay-rest, lay-leads}
 
 -- a change from c to d: the header names the tree t, the first free slot and the number of pairs, and all slots outside `wide` stay
-pub record Changed (c d : List ℕ) (t wide : Tree Pair) (free count : ℕ) : Type 0 where
+pub record Relaid (c d : List ℕ) (t wide : Tree Pair) (free count : ℕ) : Type 0 where
   pub long : length d ≡ length c
-  pub header : Holds d 0 (record { x = 1; y = top t }) free count
+  pub header : SlotHolds d 0 (record { x = 1; y = top t }) free count
   pub leads : Leads d (top t) t
   pub rest : (u : ℕ) → Slot c u → (Stands u wide → ⊥) → Agree c d u
 
@@ -31,7 +33,7 @@ module _ {c : List ℕ} (o : Pool c) (t : Tree Pair) (d : Distinct t) (h : (u : 
   zero-out : Stands 0 t → ⊥
   zero-out m = omega (arith, h 0 m .some)
 
-  pub laid-changed : Changed c (lay t (putHeader c (top t) g n)) t t g n
+  pub laid-changed : Relaid c (lay t (putHeader c (top t) g n)) t t g n
   laid-changed =
       let b = putHeader c (top t) g n in
       let W = header-wrote c (top t) g n in
@@ -43,10 +45,10 @@ module _ {c : List ℕ} (o : Pool c) (t : Tree Pair) (d : Distinct t) (h : (u : 
       }
 
 -- the header of a sound pool
-pub sound-header : {c : List ℕ} (s : Sound c) → Holds c 0 (record { x = 1; y = top (s .tree) }) (freeOf c) (countOf c)
+pub sound-header : {c : List ℕ} (s : Sound c) → SlotHolds c 0 (record { x = 1; y = top (s .tree) }) (freeOf c) (countOf c)
 sound-header s = record { pair = pair-ext (s .mark) (leads-top (s .links)); left = refl; right = refl }
 
-module _ {c d : List ℕ} {t wide : Tree Pair} {g n : ℕ} (h : Changed c d t wide g n) where
+module _ {c d : List ℕ} {t wide : Tree Pair} {g n : ℕ} (h : Relaid c d t wide g n) where
   pub changed-root : rootOf d ≡ top t
   changed-root = ap (λ q. q .y) (h .header .pair)
 
@@ -73,11 +75,11 @@ module _ {c d : List ℕ} {t wide : Tree Pair} {g n : ℕ} (h : Changed c d t wi
         rest = omega arith;
       }
 
-pub changed-as : {c d : List ℕ} {t t′ w w′ : Tree Pair} {g g′ n n′ : ℕ} → Changed c d t w g n → t ≡ t′ → w ≡ w′ → g ≡ g′ → n ≡ n′ → Changed c d t′ w′ g′ n′
+pub changed-as : {c d : List ℕ} {t t′ w w′ : Tree Pair} {g g′ n n′ : ℕ} → Relaid c d t w g n → t ≡ t′ → w ≡ w′ → g ≡ g′ → n ≡ n′ → Relaid c d t′ w′ g′ n′
 changed-as h et ew eg en = rw (et, ew, eg, en) at h
 
 -- law: two changes from c to the same, that agree on the slots that the tree has given up, are equal
-pub changed-same : {c d e : List ℕ} {t wide : Tree Pair} {g n : ℕ} → Pool c → Changed c d t wide g n → Changed c e t wide g n
+pub changed-same : {c d e : List ℕ} {t wide : Tree Pair} {g n : ℕ} → Pool c → Relaid c d t wide g n → Relaid c e t wide g n
     → ((u : ℕ) → Stands u wide → (Stands u t → ⊥) → Agree d e u) → e ≡ d
 changed-same {t = t} {wide = wide} p h k other =
     let l = h .long in
@@ -86,7 +88,7 @@ changed-same {t = t} {wide = wide} p h k other =
     ⊎-elim (λ m. other u m n) (λ m. agree-then (agree-back (h .rest u o′ m)) (k .rest u o′ m)) (stands u wide))
 
 -- the way back from d to the sound pool c
-undone : {c d : List ℕ} {t wide : Tree Pair} {g n : ℕ} (s : Sound c) → Changed c d t wide g n → Changed d c (s .tree) wide (freeOf c) (countOf c)
+undone : {c d : List ℕ} {t wide : Tree Pair} {g n : ℕ} (s : Sound c) → Relaid c d t wide g n → Relaid d c (s .tree) wide (freeOf c) (countOf c)
 undone s h = record {
   long = sym (h .long);
   header = sound-header s;
@@ -95,6 +97,6 @@ undone s h = record {
 }
 
 -- law: a second change of the same slots that leads to the first tree, with the first header, takes the first back
-pub changed-back : {c d e : List ℕ} {t wide : Tree Pair} {g n : ℕ} (s : Sound c) → Changed c d t wide g n
-    → Changed d e (s .tree) wide (freeOf c) (countOf c) → ((u : ℕ) → Stands u wide → (Stands u (s .tree) → ⊥) → Agree c e u) → e ≡ c
+pub changed-back : {c d e : List ℕ} {t wide : Tree Pair} {g n : ℕ} (s : Sound c) → Relaid c d t wide g n
+    → Relaid d e (s .tree) wide (freeOf c) (countOf c) → ((u : ℕ) → Stands u wide → (Stands u (s .tree) → ⊥) → Agree c e u) → e ≡ c
 changed-back s h k other = changed-same (same-pool (h .long) (s .pool)) (undone s h) k other

@@ -1,4 +1,4 @@
--- The test of a pool is true exactly where the pool is sound.
+-- The test of a pool is true exactly where the pool is sound. Nothing is assumed of the cells.
 use Prim.Native.Nat.{ℕ, zero, suc, _+_, _*_, _-_, _≤_}
 use mathlib.Core.Path.{_≡_, refl, ap}
 use mathlib.Core.Logic.{_↔_}
@@ -11,7 +11,8 @@ use borrow.Author.Tests.{eq-eqb, ne-eqb, le-leb, lt-ltb, eqb-true, eqb-false, le
 use Rattle.kinds.specs.declared.Pair.{Pair}
 use Rattle.kinds.specs.Pairs.{beats}
 use Rattle.kinds.specs.Stripe.{Stripe, In, holds, rootStripe, middle, leftPart, rightPart, lowLevels, allLevels}
-use Rattle.trees.specs.Tree.{Tree, fork, size, Tops, free, over, Within, Well, itself, New}
+use Rattle.trees.specs.Tree.{Tree, fork, size, Tops, free, over, Within, Well, itself}
+use Rattle.trees.specs.Standing.{New}
 use Rattle.trees.specs.Changes.{met}
 use Rattle.pools.specs.Cells.{mostSlots, perSlot, slotsOf, markOf, rootOf, freeOf, countOf, pairAt, leftAt, rightAt, freeMark, isFree, treeAt}
 use Rattle.pools.specs.Sound.{Pool, Slot, Leads, nowhere, slot, Free, Chain, ends, next, Sound}

@@ -1,4 +1,5 @@
--- The cells after a deletion: a sound pool whose tree is what is left, with the slot that was given up first in the chain.
+-- The cells after a deletion: a sound pool whose tree is what is left, with the slot that was given up first in the chain. It assumes a sound
+-- pool whose tree has the pair.
 use Prim.Native.Nat.{ℕ, _+_, _-_}
 use mathlib.Core.Path.{_≡_, _∙_}
 use mathlib.Core.Logic.{_≢_, _↔_, _⊎_, inl, inr, ⊎-elim}
@@ -7,7 +8,8 @@ use native.Mathlib.Omega.{arith}
 use lib.ListN.{length}
 use Rattle.kinds.specs.declared.Pair.{Pair}
 use Rattle.kinds.specs.Stripe.{rootStripe}
-use Rattle.trees.specs.Tree.{size, Mem, Well, itself, New, Stands}
+use Rattle.trees.specs.Tree.{size, Mem, Well, itself}
+use Rattle.trees.specs.Standing.{New, Stands}
 use Rattle.trees.specs.Changes.{Cut, takeOut}
 use Rattle.pools.specs.Cells.{freeOf, countOf, freeMark, putHeader, putFree, stored}
 use Rattle.pools.specs.Sound.{Slot, Chain, next, Sound}
@@ -19,10 +21,10 @@ use Rattle.trees.proofs.Back.{taken-down}
 use Rattle.pools.proofs.Leads.{leads-one}
 use Rattle.pools.proofs.Decided.{sound-well, sound-tree}
 use Rattle.trees.proofs.Standing.{down-stands, stands-new, stands-down, distinct-down, new-out, down-size}
-use Rattle.pools.proofs.Agreement.{Agree, agree-then, same-slot, leads-frame, chain-frame, Holds, holds-agree, agree-holds, holds-free, free-wrote, free-read, slot-fits}
+use Rattle.pools.proofs.Agreement.{Agree, agree-then, same-slot, leads-frame, chain-frame, SlotHolds, holds-agree, agree-holds, holds-free, free-wrote, free-read, slot-fits}
 use Rattle.pools.proofs.Slots.{sound-distinct, tree-slot, free-slot, not-both}
 use Rattle.pools.proofs.Stored.{stored-mem}
-use Rattle.pools.proofs.Changed.{Changed, laid-changed, changed-links, changed-sound, changed-same}
+use Rattle.pools.proofs.Changed.{Relaid, laid-changed, changed-links, changed-sound, changed-same}
 
 -- what is left of the tree after the deletion, and the slot that is given up
 abbrev pub cut : {c : List ℕ} → Sound c → ℕ → Cut Pair
@@ -57,11 +59,11 @@ module _ {c : List ℕ} (s : Sound c) (p : Pair) (m : Mem p (s .tree)) where
   pub given-slot : Slot c (cut s (p .x) .slot)
   given-slot = tree-slot s given-stands
 
-  laid-tree : Changed c (laid s (p .x)) (cut s (p .x) .tree) (cut s (p .x) .tree) (cut s (p .x) .slot) (countOf c - 1)
+  laid-tree : Relaid c (laid s (p .x)) (cut s (p .x) .tree) (cut s (p .x) .tree) (cut s (p .x) .slot) (countOf c - 1)
   laid-tree = laid-changed (s .pool) (cut s (p .x) .tree) (distinct-down itself cut-down (sound-distinct s))
       (λ u k. tree-slot s (stands-down itself cut-down k)) (cut s (p .x) .slot) (countOf c - 1)
 
-  freed : Changed c (putFree (laid s (p .x)) (cut s (p .x) .slot) (freeOf c)) (cut s (p .x) .tree) (s .tree) (cut s (p .x) .slot) (countOf c - 1)
+  freed : Relaid c (putFree (laid s (p .x)) (cut s (p .x) .slot) (freeOf c)) (cut s (p .x) .tree) (s .tree) (cut s (p .x) .slot) (countOf c - 1)
   freed =
       let L = laid-tree in
       let W = free-wrote (laid s (p .x)) (cut s (p .x) .slot) (freeOf c) in
@@ -74,11 +76,11 @@ module _ {c : List ℕ} (s : Sound c) (p : Pair) (m : Mem p (s .tree)) where
       }
 
   -- what the deletion writes
-  pub deleted-changed : Changed c (deleted c (p .x)) (cut s (p .x) .tree) (s .tree) (cut s (p .x) .slot) (countOf c - 1)
+  pub deleted-changed : Relaid c (deleted c (p .x)) (cut s (p .x) .tree) (s .tree) (cut s (p .x) .slot) (countOf c - 1)
   deleted-changed = rw (deleted-is s (p .x)) freed
 
   -- the slot given up is in the free form, and points to the one that was first
-  pub deleted-given : Holds (deleted c (p .x)) (cut s (p .x) .slot) (record { x = 0; y = 0 }) freeMark (freeOf c)
+  pub deleted-given : SlotHolds (deleted c (p .x)) (cut s (p .x) .slot) (record { x = 0; y = 0 }) freeMark (freeOf c)
   deleted-given =
       let o : Slot (laid s (p .x)) (cut s (p .x) .slot) = same-slot (laid-tree .long) given-slot in
       rw (deleted-is s (p .x)) (free-read (laid s (p .x)) (cut s (p .x) .slot) (freeOf c) (slot-fits o))
@@ -127,6 +129,6 @@ module _ {c : List ℕ} (s : Sound c) (p : Pair) (m : Mem p (s .tree)) where
   deleted-gone q j = all-at _ cut-new (rw (deleted-any deleted-sound) at (stored-mem deleted-sound q .0 j))
 
   -- law: what the deletion writes is all that it writes
-  pub deleted-one : {d : List ℕ} → Changed c d (cut s (p .x) .tree) (s .tree) (cut s (p .x) .slot) (countOf c - 1)
-      → Holds d (cut s (p .x) .slot) (record { x = 0; y = 0 }) freeMark (freeOf c) → d ≡ deleted c (p .x)
+  pub deleted-one : {d : List ℕ} → Relaid c d (cut s (p .x) .tree) (s .tree) (cut s (p .x) .slot) (countOf c - 1)
+      → SlotHolds d (cut s (p .x) .slot) (record { x = 0; y = 0 }) freeMark (freeOf c) → d ≡ deleted c (p .x)
   deleted-one h f = changed-same (s .pool) deleted-changed h (λ u a k. ⊎-elim (λ z. rw z (agree-holds deleted-given f)) (λ b. absurd (k b)) (down-stands itself cut-down a))

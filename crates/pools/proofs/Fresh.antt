@@ -1,5 +1,6 @@
--- A fresh pool is sound and stores nothing. Each law goes along the slots, with the cells before a slot split off.
-use Prim.Native.Nat.{ℕ, zero, suc, _+_, _*_, _-_, _≤_}
+-- A fresh pool is sound and stores nothing. Each law goes along the slots, with the cells before a slot split off. That it is sound assumes 1 to
+-- 4,095 slots.
+use Prim.Native.Nat.{ℕ, zero, suc, _+_, _*_, _≤_}
 use mathlib.Core.Path.{_≡_, refl, sym, ap, _∙_}
 use mathlib.Core.List.{List, [], _∷_, _++_, append-assoc}
 use native.Mathlib.Omega.{arith}

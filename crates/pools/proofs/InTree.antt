@@ -13,7 +13,8 @@ use Rattle.kinds.specs.Stripe.{rootStripe}
 use Rattle.kinds.proofs.Tests.{on, clash}
 use Rattle.plain.specs.Plain.{hasX, has, Alike, Apart}
 use Rattle.plain.proofs.Having.{hasX-true, true-hasX, has-true, true-has}
-use Rattle.trees.specs.Tree.{itself, members, Mem, Well, New}
+use Rattle.trees.specs.Tree.{itself, members, Mem, Well}
+use Rattle.trees.specs.Standing.{New}
 use Rattle.trees.proofs.Trees.{all-map, all-mem, all-at}
 use Rattle.trees.proofs.Members.{members-mem, well-apart}
 use Rattle.pools.specs.Cells.{slotsOf, freeOf, stored, treeOf}

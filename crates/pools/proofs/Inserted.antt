@@ -1,4 +1,5 @@
--- The cells after an insertion: a sound pool whose tree is the one that the pair went down into.
+-- The cells after an insertion: a sound pool whose tree is the one that the pair went down into. It assumes a sound pool with a free slot, and
+-- an x of 32 bits that is new.
 use Prim.Native.Nat.{ℕ, _+_, _<_}
 use mathlib.Core.Path.{_≡_, refl, ap}
 use mathlib.Core.Logic.{_≢_, _↔_, _⊎_, inl, inr, ⊎-elim}
@@ -7,7 +8,8 @@ use native.Mathlib.Omega.{arith}
 use lib.ListN.{length}
 use Rattle.kinds.specs.declared.Pair.{Pair}
 use Rattle.kinds.specs.Stripe.{In, rootStripe}
-use Rattle.trees.specs.Tree.{Tree, Well, itself, New, Stands}
+use Rattle.trees.specs.Tree.{Tree, Well, itself}
+use Rattle.trees.specs.Standing.{New, Stands}
 use Rattle.trees.specs.Changes.{goDown}
 use Rattle.pools.specs.Cells.{freeOf, countOf, rightAt, putHeader, stored}
 use Rattle.pools.specs.Sound.{Slot, Free, Chain, ends, next, Sound}
@@ -20,7 +22,7 @@ use Rattle.pools.proofs.Agreement.{Agree, chain-frame}
 use Rattle.plain.proofs.Apart.{not-differs}
 use Rattle.pools.proofs.Slots.{sound-distinct, tree-slot, free-slot, not-both, chain-apart}
 use Rattle.pools.proofs.Stored.{stored-mem}
-use Rattle.pools.proofs.Changed.{Changed, laid-changed, changed-links, changed-sound, changed-same}
+use Rattle.pools.proofs.Changed.{Relaid, laid-changed, changed-links, changed-sound, changed-same}
 
 -- the chain from its first slot on
 pub record First (c : List ℕ) (s : ℕ) (free : List ℕ) : Type 0 where
@@ -44,21 +46,21 @@ inserted-is {c} s p = rw (sound-tree c s)
 
 module _ {c : List ℕ} (s : Sound c) (n : freeOf c ≢ 0) where
   -- the free slot that is taken
-  pub taken-first : First c (freeOf c) (s .free)
-  taken-first = first (s .chain) n
+  pub free-first : First c (freeOf c) (s .free)
+  free-first = first (s .chain) n
 
   taken-listed : List·Memᴰ (freeOf c) (s .free)
-  taken-listed = rw (taken-first .whole) (List·Memᴰ·head refl)
+  taken-listed = rw (free-first .whole) (List·Memᴰ·head refl)
 
   pub taken-out : Stands (freeOf c) (s .tree) → ⊥
   taken-out m = not-both s m taken-listed
 
-  rest-listed : {u : ℕ} → List·Memᴰ u (taken-first .rest) → List·Memᴰ u (s .free)
-  rest-listed m = rw (taken-first .whole) (List·Memᴰ·tail m)
+  rest-listed : {u : ℕ} → List·Memᴰ u (free-first .rest) → List·Memᴰ u (s .free)
+  rest-listed m = rw (free-first .whole) (List·Memᴰ·tail m)
 
-  rest-other : {u : ℕ} → List·Memᴰ u (taken-first .rest) → u ≢ freeOf c
+  rest-other : {u : ℕ} → List·Memᴰ u (free-first .rest) → u ≢ freeOf c
   rest-other {u} m e =
-      let F = taken-first in
+      let F = free-first in
       let a = rw (F .whole) at (chain-apart (s .chain)) in
       not-differs (rw e at m) (a .0)
 
@@ -73,10 +75,10 @@ module _ {c : List ℕ} (s : Sound c) (p : Pair) (e : New itself (p .x) (s .tree
   grown-well = goDown-well itself (freeOf c) p rootStripe (s .tree) (sound-well c s) inside e
 
   grown-slot : (u : ℕ) → Stands u (grown s p) → Slot c u
-  grown-slot u m = ⊎-elim (λ z. rw z (taken-first s n .slot)) (λ k. tree-slot s k) (down-stands itself grown-down m)
+  grown-slot u m = ⊎-elim (λ z. rw z (free-first s n .slot)) (λ k. tree-slot s k) (down-stands itself grown-down m)
 
   -- what the insertion writes
-  pub inserted-changed : Changed c (inserted c p) (grown s p) (grown s p) (rightAt c (freeOf c)) (countOf c + 1)
+  pub inserted-changed : Relaid c (inserted c p) (grown s p) (grown s p) (rightAt c (freeOf c)) (countOf c + 1)
   inserted-changed = rw (inserted-is s p)
       (laid-changed (s .pool) (grown s p) (down-distinct itself grown-down (sound-distinct s) (taken-out s n)) grown-slot (rightAt c (freeOf c)) (countOf c + 1))
 
@@ -84,7 +86,7 @@ module _ {c : List ℕ} (s : Sound c) (p : Pair) (e : New itself (p .x) (s .tree
   pub inserted-length : length (inserted c p) ≡ length c
   inserted-length = inserted-changed .long
 
-  rest-agree : (u : ℕ) → List·Memᴰ u (taken-first s n .rest) → Agree c (inserted c p) u
+  rest-agree : (u : ℕ) → List·Memᴰ u (free-first s n .rest) → Agree c (inserted c p) u
   rest-agree u m =
       let k = rest-listed s n m in
       inserted-changed .rest u (free-slot s k)
@@ -93,7 +95,7 @@ module _ {c : List ℕ} (s : Sound c) (p : Pair) (e : New itself (p .x) (s .tree
   -- law: the pool is sound afterwards
   pub inserted-sound : Sound (inserted c p)
   inserted-sound =
-      let F = taken-first s n in
+      let F = free-first s n in
       let r = s .rest in
       let w = ap length (F .whole) in
       let k = s .count in
@@ -116,5 +118,5 @@ module _ {c : List ℕ} (s : Sound c) (p : Pair) (e : New itself (p .x) (s .tree
       )
 
   -- law: what the insertion writes is all that it writes
-  pub inserted-one : {d : List ℕ} → Changed c d (grown s p) (grown s p) (rightAt c (freeOf c)) (countOf c + 1) → d ≡ inserted c p
+  pub inserted-one : {d : List ℕ} → Relaid c d (grown s p) (grown s p) (rightAt c (freeOf c)) (countOf c + 1) → d ≡ inserted c p
   inserted-one h = changed-same (s .pool) inserted-changed h (λ u m k. absurd (k m))

@@ -1,10 +1,11 @@
--- A tree laid out in its slots is what its top then leads to, and nothing else changes.
+-- A tree laid out in its slots is what its top then leads to, and nothing else changes. It assumes slots that differ and are the pool's.
 use Prim.Native.Nat.{ℕ}
 use mathlib.Core.Path.{_≡_, refl, _∙_}
 use mathlib.Core.List.{List}
 use lib.ListN.{length}
 use Rattle.kinds.specs.declared.Pair.{Pair}
-use Rattle.trees.specs.Tree.{Tree, none, fork, Stands, at-top, at-left, at-right, Distinct}
+use Rattle.trees.specs.Tree.{Tree, none, fork}
+use Rattle.trees.specs.Standing.{Stands, at-top, at-left, at-right, Distinct}
 use Rattle.pools.specs.Sound.{Slot, Leads, nowhere, slot}
 use Rattle.pools.specs.Laid.{top, lay}
 use Rattle.pools.proofs.Agreement.{Agree, agree-same, agree-then, same-slot, slot-as, leads-top, leads-frame, slot-wrote, slot-read, slot-same, slot-fits}

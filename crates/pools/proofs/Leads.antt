@@ -1,4 +1,4 @@
--- The tree that a link leads to is the one that is read from the cells, and no other.
+-- The tree that a link leads to is the one that is read from the cells, and no other. It assumes that the tree has no more levels than are read.
 use Prim.Native.Nat.{ℕ, zero, suc, _-_, _^_, _≤_, _<_}
 use mathlib.Core.Path.{_≡_, refl, _∙_}
 use mathlib.Core.Bool.{Bool, true, false}
@@ -9,7 +9,8 @@ use lib.Dec.{eqb}
 use borrow.Author.Tests.{eq-eqb, ne-eqb}
 use Rattle.kinds.specs.declared.Pair.{Pair}
 use Rattle.trees.specs.Tree.{Tree, none, fork, size, Within}
-use Rattle.pools.specs.Cells.{Fits, pairAt, leftAt, rightAt, sonAt, treeAt}
+use Rattle.pools.specs.Cells.{pairAt, leftAt, rightAt, treeAt}
+use Rattle.pools.specs.Links.{Fits, sonAt}
 use Rattle.pools.specs.Sound.{Leads, nowhere, slot}
 use Rattle.kinds.proofs.Tests.{on}
 

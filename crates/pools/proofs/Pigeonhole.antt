@@ -12,10 +12,10 @@ use Rattle.plain.specs.Plain.{Differs, Apart}
 use Rattle.kinds.proofs.Tests.{on}
 use Rattle.plain.proofs.Apart.{differs-not}
 
-pub listed : (x : ℕ) (l : List ℕ) → List·Memᴰ x l ⊎ (List·Memᴰ x l → ⊥)
-listed x [] = inr (λ m. elim m [ ])
-listed x (a ∷ l) =
-    let R = listed x l in
+pub member-or-not : (x : ℕ) (l : List ℕ) → List·Memᴰ x l ⊎ (List·Memᴰ x l → ⊥)
+member-or-not x [] = inr (λ m. elim m [ ])
+member-or-not x (a ∷ l) =
+    let R = member-or-not x l in
     on (eqb x a) (λ e. inl (List·Memᴰ·head (eqb-true _ _ e)))
     (λ e. ⊎-elim (λ m. inl (List·Memᴰ·tail m)) (λ n. inr (λ m. ⊎-elim (λ h. eqb-false _ _ e h) n (List·Memᴰ·cases-cons m))) R)
 
@@ -73,4 +73,4 @@ at-most (suc n) l d h =
 pub all-there : (n : ℕ) (l : List ℕ) → Apart l → From-one n l → length l ≡ n → (s : ℕ) → 1 ≤ s → s ≤ n → List·Memᴰ s l
 all-there n l d h e s a b = ⊎-elim (λ m. m)
     (λ f. absurd (omega (arith, at-most n (s ∷ l) (differs-not s l f, d) (λ x m. ⊎-elim (λ z. (omega arith, omega arith)) (λ k. h x k) (List·Memᴰ·cases-cons m)))))
-    (listed s l)
+    (member-or-not s l)

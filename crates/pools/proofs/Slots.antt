@@ -7,7 +7,8 @@ use native.Mathlib.Omega.{arith}
 use lib.ListN.{length, length-append}
 use Rattle.kinds.specs.declared.Pair.{Pair}
 use Rattle.kinds.specs.Stripe.{Stripe, rootStripe, leftPart, rightPart}
-use Rattle.trees.specs.Tree.{Tree, none, fork, slots, size, Mem, here, in-left, in-right, Well, itself, Stands, at-top, at-left, at-right, Distinct}
+use Rattle.trees.specs.Tree.{Tree, none, fork, size, Mem, here, in-left, in-right, Well, itself}
+use Rattle.trees.specs.Standing.{slots, Stands, at-top, at-left, at-right, Distinct}
 use Rattle.plain.specs.Plain.{Apart}
 use Rattle.pools.specs.Cells.{slotsOf, pairAt, leftAt}
 use Rattle.pools.specs.Sound.{Pool, Slot, Leads, nowhere, slot, Free, Chain, ends, next, Sound}

@@ -10,7 +10,8 @@ use lib.ListN.{length, length-append}
 use borrow.Author.Tests.{eqb-true, eqb-false}
 use Rattle.kinds.specs.declared.Pair.{Pair}
 use Rattle.plain.specs.Plain.{those, Differs, Apart}
-use Rattle.trees.specs.Tree.{Tree, none, fork, members, slots, size, Mem, here, in-left, in-right, xs, itself, Stands, at-top, at-left, at-right}
+use Rattle.trees.specs.Tree.{Tree, none, fork, members, size, Mem, here, in-left, in-right, xs, itself}
+use Rattle.trees.specs.Standing.{slots, Stands, at-top, at-left, at-right}
 use Rattle.pools.specs.Cells.{slotsOf, countOf, pairAt, isFree, storedFrom, stored}
 use Rattle.pools.specs.Sound.{Slot, Leads, nowhere, slot, Sound}
 use Rattle.kinds.proofs.Tests.{on, clash}

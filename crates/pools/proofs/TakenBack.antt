@@ -1,4 +1,5 @@
--- Taking back restores every cell: a deletion takes an insertion back, an insertion a deletion.
+-- Taking back restores every cell: a deletion takes an insertion back, an insertion a deletion. It assumes a sound pool; for an insertion a free
+-- slot and an x of 32 bits that is new, for a deletion that the pair is stored.
 use Prim.Native.Nat.{ℕ, _<_}
 use mathlib.Core.Path.{_≡_, refl, ap}
 use mathlib.Core.Logic.{_≢_, inl, ⊎-elim}
@@ -6,18 +7,19 @@ use mathlib.Core.List.{List}
 use native.Mathlib.Omega.{arith}
 use Rattle.kinds.specs.declared.Pair.{Pair}
 use Rattle.kinds.specs.Stripe.{rootStripe}
-use Rattle.trees.specs.Tree.{Mem, itself, New}
+use Rattle.trees.specs.Tree.{Mem, itself}
+use Rattle.trees.specs.Standing.{New}
 use Rattle.pools.specs.Cells.{freeOf, countOf, rightAt, freeMark}
 use Rattle.pools.specs.Sound.{Sound}
 use Rattle.pools.specs.Laid.{inserted, deleted}
 use Rattle.trees.proofs.Trees.{all-at, well-in}
 use Rattle.trees.proofs.GoDown.{goDown-mem}
-use Rattle.trees.proofs.Back.{put-back, taken-back}
+use Rattle.trees.proofs.Back.{put-back, back-down}
 use Rattle.pools.proofs.Decided.{sound-well}
 use Rattle.trees.proofs.Standing.{down-stands}
-use Rattle.pools.proofs.Agreement.{Holds, agree-holds, free-holds}
-use Rattle.pools.proofs.Changed.{Changed, changed-as, changed-back}
-use Rattle.pools.proofs.Inserted.{taken-first, grown, grown-down, inserted-changed, inserted-sound, inserted-any}
+use Rattle.pools.proofs.Agreement.{SlotHolds, agree-holds, free-holds}
+use Rattle.pools.proofs.Changed.{Relaid, changed-as, changed-back}
+use Rattle.pools.proofs.Inserted.{free-first, grown, grown-down, inserted-changed, inserted-sound, inserted-any}
 use Rattle.pools.proofs.Deleted.{cut, cut-new, cut-size, given-slot, deleted-changed, deleted-given, deleted-sound, deleted-any}
 
 module _ {c : List ℕ} (s : Sound c) (p : Pair) (e : New itself (p .x) (s .tree)) (b : p .x < 4294967296) (n : freeOf c ≢ 0) where
@@ -39,11 +41,11 @@ module _ {c : List ℕ} (s : Sound c) (p : Pair) (e : New itself (p .x) (s .tree
       let z = cut-back d in
       let f : cut d (p .x) .slot ≡ freeOf c = ap (λ k. k .slot) z in
       let r = I .header .right in
-      let K : Changed (inserted c p) (deleted (inserted c p) (p .x)) (s .tree) (grown s p) (freeOf c) (countOf c) =
+      let K : Relaid (inserted c p) (deleted (inserted c p) (p .x)) (s .tree) (grown s p) (freeOf c) (countOf c) =
       changed-as (deleted-changed d p m) (ap (λ k. k .tree) z) (inserted-any s p e b n d) f (omega arith) in
-      let G : Holds (deleted (inserted c p) (p .x)) (freeOf c) (record { x = 0; y = 0 }) freeMark (rightAt c (freeOf c)) =
+      let G : SlotHolds (deleted (inserted c p) (p .x)) (freeOf c) (record { x = 0; y = 0 }) freeMark (rightAt c (freeOf c)) =
       rw (f, I .header .left) at (deleted-given d p m) in
-      changed-back s I K (λ u w k. ⊎-elim (λ h. rw h (agree-holds (free-holds (taken-first s n .form)) G)) (λ h. absurd (k h))
+      changed-back s I K (λ u w k. ⊎-elim (λ h. rw h (agree-holds (free-holds (free-first s n .form)) G)) (λ h. absurd (k h))
       (down-stands itself (grown-down s p e b n) w))
 
 module _ {c : List ℕ} (s : Sound c) (p : Pair) (m : Mem p (s .tree)) where
@@ -62,7 +64,7 @@ module _ {c : List ℕ} (s : Sound c) (p : Pair) (m : Mem p (s .tree)) where
 
   -- it gives the tree back
   grown-back : (d : Sound (deleted c (p .x))) → grown d p ≡ s .tree
-  grown-back d = rw (first-given, deleted-any s p m d) (taken-back itself p rootStripe (s .tree) (sound-well c s) m)
+  grown-back d = rw (first-given, deleted-any s p m d) (back-down itself p rootStripe (s .tree) (sound-well c s) m)
 
   -- law: and it restores every cell
   pub deleted-back : inserted (deleted c (p .x)) p ≡ c

@@ -1,5 +1,5 @@
 -- The cells of a pool, by name, and the plain list of what they store.
-use Prim.Native.Nat.{ℕ, zero, suc, _+_, _*_, _-_, _/_, _≤_}
+use Prim.Native.Nat.{ℕ, zero, suc, _+_, _*_, _-_, _/_}
 use mathlib.Core.Bool.{Bool, cond, _&&_}
 use mathlib.Core.List.{List, [], _∷_, _++_}
 use lib.Dec.{eqb}
@@ -29,10 +29,6 @@ slotsOf c = length c / perSlot - 1
 abbrev pub putHeader : List ℕ → ℕ → ℕ → ℕ → List ℕ
 putHeader c root free count = set (set (set (set c 0 poolMark) 1 root) 2 free) 3 count
 
--- all cells of slot s are there
-abbrev pub Fits : List ℕ → ℕ → Type 0
-Fits c s = s * perSlot + perSlot ≤ length c
-
 -- cells 0 to 3: the mark, the root slot, the first free slot, the number of pairs
 abbrev pub markOf : List ℕ → ℕ
 markOf c = getD c 0 0
@@ -55,14 +51,6 @@ leftAt c s = getD c (s * perSlot + 2) 0
 
 abbrev pub rightAt : List ℕ → ℕ → ℕ
 rightAt c s = getD c (s * perSlot + 3) 0
-
--- the link to the left son, or to the right one
-unfoldable pub sonAt : List ℕ → ℕ → Bool → ℕ
-sonAt c s left = cond left (leftAt c s) (rightAt c s)
-
--- the cell that holds it
-unfoldable pub linkCell : ℕ → Bool → ℕ
-linkCell s left = cond left (s * perSlot + 2) (s * perSlot + 3)
 
 -- the cells with slot s written anew: its pair, its links
 abbrev pub putPair : List ℕ → ℕ → Pair → List ℕ

@@ -7,7 +7,7 @@ use Rattle.kinds.specs.declared.Answer.{Answer}
 use Rattle.kinds.specs.declared.Limits.{Limits}
 use Rattle.kinds.specs.declared.Walked.{Walked}
 use Rattle.kinds.specs.declared.Finding.{Finding}
-use Rattle.kinds.specs.Answer.{answered}
+use Rattle.kinds.specs.Making.{answered}
 use Rattle.kinds.specs.Promise.{Gives}
 use Rattle.kinds.specs.Stripe.{rootStripe}
 use Rattle.kinds.proofs.Tables.{gives}

@@ -22,19 +22,19 @@ module _ {c out : List ℕ} {made : Result} {r : Answer} where
     pub limits-backwards : x1 < x0 → r ≡ refused codes.backwards → Keeps (by (backwardsLine x0 x1 ∷ []) made) c out r c out
     limits-backwards h e = refuses [] (backwardsLine x0 x1) [] tt (lt-ltb x1 x0 h) e
 
-    pub limits-right : x0 ≤ x1 → {out′ : List ℕ} → Gives made r c out′ → Keeps (by (backwardsLine x0 x1 ∷ []) made) c out r c out′
-    limits-right h g = accepts (backwardsLine x0 x1 ∷ []) (le-ltb x1 x0 h, tt) g
+    pub limits-pass : x0 ≤ x1 → {out′ : List ℕ} → Gives made r c out′ → Keeps (by (backwardsLine x0 x1 ∷ []) made) c out r c out′
+    limits-pass h g = accepts (backwardsLine x0 x1 ∷ []) (le-ltb x1 x0 h, tt) g
 
   module _ (u : ℕ) {k : ℕ} (e : k ≡ firstCode (slotLines u)) where
     pub slot-refused : (k ≡ 0 → ⊥) → r ≡ refused k → Keeps (by (slotLines u) made) c out r c out
     slot-refused n er = refuses-code (slotLines u) (by [] made) (λ z. n (e ∙ z)) (er ∙ ap refused e)
 
-    pub slot-right : k ≡ 0 → {out′ : List ℕ} → Gives made r c out′ → Keeps (by (slotLines u) made) c out r c out′
-    slot-right z g = accepts (slotLines u) (slot-off u (sym e ∙ z)) g
+    pub slot-passes : k ≡ 0 → {out′ : List ℕ} → Gives made r c out′ → Keeps (by (slotLines u) made) c out r c out′
+    slot-passes z g = accepts (slotLines u) (slot-off u (sym e ∙ z)) g
 
   module _ (u v : ℕ) {k : ℕ} (e : k ≡ firstCode (slotsLines u v)) where
     pub slots-refused : (k ≡ 0 → ⊥) → r ≡ refused k → Keeps (by (slotsLines u v) made) c out r c out
     slots-refused n er = refuses-code (slotsLines u v) (by [] made) (λ z. n (e ∙ z)) (er ∙ ap refused e)
 
-    pub slots-right : k ≡ 0 → {out′ : List ℕ} → Gives made r c out′ → Keeps (by (slotsLines u v) made) c out r c out′
-    slots-right z g = accepts (slotsLines u v) (slots-off u v (sym e ∙ z)) g
+    pub slots-pass : k ≡ 0 → {out′ : List ℕ} → Gives made r c out′ → Keeps (by (slotsLines u v) made) c out r c out′
+    slots-pass z g = accepts (slotsLines u v) (slots-off u v (sym e ∙ z)) g

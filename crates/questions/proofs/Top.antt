@@ -7,13 +7,14 @@ use Rattle.kinds.specs.declared.Finding.{Finding}
 use Rattle.kinds.specs.declared.Finding.the-variants.{Nothing}
 use Rattle.kinds.specs.declared.Pair.{Pair}
 use Rattle.kinds.specs.declared.Walked.{Walked}
-use Rattle.pools.specs.Cells.{mostSlots, Fits, rootOf, treeAt}
+use Rattle.pools.specs.Cells.{mostSlots, rootOf, treeAt}
+use Rattle.pools.specs.Links.{Fits}
 use Rattle.pools.specs.Sound.{Sound}
 use Rattle.kinds.specs.Stripe.{allLevels, Stripe, rootStripe}
 use Rattle.trees.specs.Tree.{Tree, none, size}
 use Rattle.walks.specs.Walks.{seen}
 use Rattle.pools.proofs.Leads.{tree-none, leads-tree}
-use Rattle.questions.specs.Walking.{foundAt, Asked, Made}
+use Rattle.questions.specs.Walking.{foundAt, Walkable, Made}
 
 module _ (c : List ℕ) (o : Sound c) where
   -- the header is there
@@ -27,7 +28,7 @@ module _ (c : List ℕ) (o : Sound c) where
   few = let n = o .count in let r = o .rest in let m = o .pool .most in omega arith
 
   -- law: what a walk relies on, at the root, before its first visit
-  pub root-asked : Asked c allLevels (rootOf c) rootStripe 0
+  pub root-asked : Walkable c allLevels (rootOf c) rootStripe 0
   root-asked = record {
     leads = rw root-tree (o .links);
     low = record { lower = omega arith; upper = omega arith };
@@ -35,7 +36,7 @@ module _ (c : List ℕ) (o : Sound c) where
   }
 
   -- law: the same of the link and the stripe that the code has read
-  pub root-here : (s : ℕ) (at : Stripe) → s ≡ rootOf c → (s ≡ 0 → ⊥) → at ≡ rootStripe → (1 ≤ s) × Asked c allLevels s at 0
+  pub root-here : (s : ℕ) (at : Stripe) → s ≡ rootOf c → (s ≡ 0 → ⊥) → at ≡ rootStripe → (1 ≤ s) × Walkable c allLevels s at 0
   root-here s at es ne ea =
       let m : 1 ≤ s = omega (arith, ne) in
       (m, rw (es, ea) root-asked)

@@ -7,9 +7,11 @@ use lib.Dec.{eqb}
 use Rattle.kinds.specs.declared.Finding.{Finding}
 use Rattle.kinds.specs.declared.Finding.the-variants.{Found, Nothing}
 use Rattle.kinds.specs.declared.Walked.{Walked}
-use Rattle.pools.specs.Cells.{Fits, pairAt, treeAt}
+use Rattle.pools.specs.Cells.{pairAt, treeAt}
+use Rattle.pools.specs.Links.{Fits}
 use Rattle.pools.specs.Sound.{Leads}
-use Rattle.kinds.specs.Stripe.{Stripe, Low}
+use Rattle.kinds.specs.Stripe.{Stripe}
+use Rattle.kinds.specs.Heights.{Low}
 use Rattle.trees.specs.Tree.{size}
 
 -- the finding that a slot's number stands for
@@ -21,7 +23,7 @@ abbrev pub Some : List ℕ → ℕ → Type 0
 Some c s = (s ≡ 0 → ⊥) → Fits c s
 
 -- what a walk may rely on at a place, so many levels down, after v visits: the link leads to the tree that is read, and the visits fit 32 bits
-pub record Asked (c : List ℕ) (k s : ℕ) (at : Stripe) (v : ℕ) : Type 0 where
+pub record Walkable (c : List ℕ) (k s : ℕ) (at : Stripe) (v : ℕ) : Type 0 where
   pub leads : Leads c s (treeAt c k s)
   pub low : Low at
   pub few : v + size (treeAt c k s) < 4294967296

@@ -1,4 +1,5 @@
--- The loop over the stored pairs, a turn at a time: what the walk finds is the first of those still to be written.
+-- The loop over the stored pairs, a turn at a time: what the walk finds is the first of those still to be written. It assumes a sound pool whose
+-- cells are of 32 bits.
 use Prim.Native.Nat.{ℕ, zero, suc, _+_, _*_, _≤_, _<_}
 use mathlib.Core.Path.{_≡_, refl, sym, ap, _∙_}
 use mathlib.Core.Logic.{⊎-elim}
@@ -35,8 +36,8 @@ unfoldable pub toWrite : List ℕ → ℕ → List Pair
 toWrite c x0 = byX (atLeast x0 (stored c))
 
 -- the largest number of 32 bits
-abbrev pub last : ℕ
-last = 4294967295
+abbrev pub lastX : ℕ
+lastX = 4294967295
 
 -- every cell is a number of 32 bits
 abbrev pub Words : List ℕ → Type 0
@@ -47,7 +48,7 @@ none-left x0 [] h = refl
 none-left x0 (p ∷ ps) h = rw (lt-leb x0 (p .x) (h p (List·Memᴰ·head refl))) (none-left x0 ps (λ q m. h q (List·Memᴰ·tail m)))
 
 module _ (c : List ℕ) (W : Words c) where
-  from-words : (k s : ℕ) (q : Pair) → List·Memᴰ q (storedFrom c k s) → (q .x ≤ last) × (q .y ≤ last)
+  from-words : (k s : ℕ) (q : Pair) → List·Memᴰ q (storedFrom c k s) → (q .x ≤ lastX) × (q .y ≤ lastX)
   unfolding storedFrom
   from-words zero s q m = elim m [ ]
   from-words (suc k) s q m =
@@ -60,41 +61,41 @@ module _ (c : List ℕ) (W : Words c) where
   none-above x0 h = ap byX (none-left x0 (stored c) h)
 
   module _ (S : Sound c) (x0 : ℕ) where
-    matching : (q : Pair) → List·Memᴰ q (stored c) → x0 ≤ q .x → matches (limits x0 last last) q ≡ true
+    matching : (q : Pair) → List·Memᴰ q (stored c) → x0 ≤ q .x → matches (limits x0 lastX lastX) q ≡ true
     matching q m h =
         let b = from-words _ 1 q m in
-        and-true (and-true (le-leb x0 (q .x) h) (le-leb (q .x) last (b .0))) (le-leb (q .y) last (b .1))
+        and-true (and-true (le-leb x0 (q .x) h) (le-leb (q .x) lastX (b .0))) (le-leb (q .y) lastX (b .1))
 
-    module _ (w : Walked) (ew : w ≡ smallestX (limits x0 last last) rootStripe (treeAt c allLevels (rootOf c))) where
-      walked : w .finding ≡ smallestXOf (limits x0 last last) (stored c)
+    module _ (w : Walked) (ew : w ≡ smallestX (limits x0 lastX lastX) rootStripe (treeAt c allLevels (rootOf c))) where
+      walked : w .finding ≡ smallestXOf (limits x0 lastX lastX) (stored c)
       walked = ap (λ w. w .finding) ew ∙ rw (sound-tree c S)
-          (smallestX-any rootStripe (S .tree) (sound-well c S) (stored c) (λ p. (stored-mem S p .1, stored-mem S p .0)) (limits x0 last last))
+          (smallestX-any rootStripe (S .tree) (sound-well c S) (stored c) (λ p. (stored-mem S p .1, stored-mem S p .0)) (limits x0 lastX lastX))
 
       -- law: where it finds nothing, nothing is left to write
       pub nothing-left : w .finding ≡ Nothing → toWrite c x0 ≡ []
       nothing-left e =
-          let N = smallestXOf-nothing (stored c) (limits x0 last last) .0 (sym walked ∙ e) in
+          let N = smallestXOf-nothing (stored c) (limits x0 lastX lastX) .0 (sym walked ∙ e) in
           none-above x0 (λ q m. on (leb x0 (q .x)) (λ t. absurd (clash (matching q m (leb-true x0 (q .x) t)) (N q m))) (λ t. leb-false x0 (q .x) t))
 
       module _ (p : Pair) (e : w .finding ≡ Found p) where
-        closest : Closest (matches (limits x0 last last)) smaller (stored c) p
-        closest = smallestXOf-found (stored c) (stored-apart S) p (limits x0 last last) .0 (sym walked ∙ e)
+        closest : Closest (matches (limits x0 lastX lastX)) smaller (stored c) p
+        closest = smallestXOf-found (stored c) (stored-apart S) p (limits x0 lastX lastX) .0 (sym walked ∙ e)
 
         -- law: what it finds is the next to write
-        pub next : toWrite c x0 ≡ p ∷ toWrite c (p .x + 1)
+        pub next-pair : toWrite c x0 ≡ p ∷ toWrite c (p .x + 1)
         unfolding toWrite
-        next =
+        next-pair =
             let C = closest in
             let f = both _ _ (both _ _ (C .fits) .0) in
             byX-first (stored c) (stored-apart S) x0 p (C .member) (leb-true x0 (p .x) (f .0)) (λ q m h. ltb-false (q .x) (p .x) (C .ahead q m (matching q m h)))
 
         -- law: so one less is left
         pub one-less : length (toWrite c (p .x + 1)) < length (toWrite c x0)
-        one-less = let l = ap length next in omega arith
+        one-less = let l = ap length next-pair in omega arith
 
         -- law: it is the last where its x is
-        pub next-last : p .x ≡ last → toWrite c x0 ≡ p ∷ []
-        next-last h = next ∙ ap (λ l. p ∷ l) (none-above (p .x + 1) (λ q m. let b = from-words _ 1 q m in omega (arith, b .0)))
+        pub next-last : p .x ≡ lastX → toWrite c x0 ≡ p ∷ []
+        next-last h = next-pair ∙ ap (λ l. p ∷ l) (none-above (p .x + 1) (λ q m. let b = from-words _ 1 q m in omega (arith, b .0)))
 
 -- what stays so at each turn: there is room for what is still to be written, and it gives what was to be written
 pub record Turn (c o0 o : List ℕ) (at x0 : ℕ) : Type 0 where

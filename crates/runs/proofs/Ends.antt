@@ -1,4 +1,5 @@
--- How each call fits its fellow over a plain list with the same pairs.
+-- How each call fits its fellow over a plain list with the same pairs. It assumes a sound pool and a plain list with the same pairs (`Same`);
+-- the x of an inserted pair is of 32 bits.
 use Prim.Native.Nat.{ℕ, _<_, _*_, _+_}
 use mathlib.Core.Path.{_≡_, refl, sym, ap, _∙_}
 use mathlib.Core.Logic.{inl, inr, ⊎-elim}
@@ -34,7 +35,7 @@ use Rattle.pages.proofs.Ascending.{byX-mem, byX-rises, rises-one}
 use Rattle.promises.specs.Promises.{walkListed, insertion, deletion, opening, closing, smallestXAsked, largestXAsked, smallestYAsked, firstToEnd, lastToEnd, earliestStart, listingAsked, listCovers, listMeets, listContains, saved}
 use Rattle.plain.proofs.Limits.{strip-small}
 use Rattle.runs.specs.Playing.{Same}
-use Rattle.runs.proofs.Fits.{Fits}
+use Rattle.runs.proofs.Fits.{FitsPlain}
 
 module _ {c : List ℕ} {b : Book} (h : Same c b) where
   abbrev s : Sound c
@@ -91,7 +92,7 @@ module _ {c : List ℕ} {b : Book} (h : Same c b) where
         room = rw l e;
       }
 
-  pub insert-fits : (p : Pair) → p .x < 4294967296 → Fits b (insertion c p) (plainInsert p b) []
+  pub insert-fits : (p : Pair) → p .x < 4294967296 → FitsPlain b (insertion c p) (plainInsert p b) []
   unfolding insertion plainInsert
   insert-fits p small = record {
     lines = rw (hasX-same (p .x), full-same);
@@ -100,7 +101,7 @@ module _ {c : List ℕ} {b : Book} (h : Same c b) where
     wrote = λ n. refl;
   }
 
-  pub open-fits : (start end number : ℕ) → Fits b (opening c start end number) (plainOpen start end number b) []
+  pub open-fits : (start end number : ℕ) → FitsPlain b (opening c start end number) (plainOpen start end number b) []
   unfolding opening plainOpen
   open-fits start end number =
       let p = stripPair start end number in
@@ -118,7 +119,7 @@ module _ {c : List ℕ} {b : Book} (h : Same c b) where
       let g : not (has p (b .pairs)) ≡ false = rw e at f in
       not-false _ g
 
-  pub delete-fits : (p : Pair) → Fits b (deletion c p) (plainDelete p b) []
+  pub delete-fits : (p : Pair) → FitsPlain b (deletion c p) (plainDelete p b) []
   unfolding deletion plainDelete
   delete-fits p = record {
     lines = rw (hasX-same (p .x), has-same p);
@@ -127,7 +128,7 @@ module _ {c : List ℕ} {b : Book} (h : Same c b) where
     wrote = λ n. refl;
   }
 
-  pub close-fits : (start end number : ℕ) → Fits b (closing c start end number) (plainClose start end number b) []
+  pub close-fits : (start end number : ℕ) → FitsPlain b (closing c start end number) (plainClose start end number b) []
   unfolding closing plainClose
   close-fits start end number =
       let p = stripPair start end number in
@@ -148,27 +149,27 @@ module _ {c : List ℕ} {b : Book} (h : Same c b) where
   smallestY-same : (x0 x1 : ℕ) → outcomeOf (smallestYOf x0 x1 (stored c)) ≡ outcomeOf (smallestYOf x0 x1 (b .pairs))
   smallestY-same x0 x1 = ap outcomeOf (smallestYOf-alike (stored c) (b .pairs) (stored-apart s) (h .alike) x0 x1)
 
-  pub smallestX-fits : (q : Limits) → Fits b (smallestXAsked c q) (plainSmallestX q b) []
+  pub smallestX-fits : (q : Limits) → FitsPlain b (smallestXAsked c q) (plainSmallestX q b) []
   unfolding smallestXAsked plainSmallestX
   smallestX-fits q = record { lines = refl; outcome = smallestX-same q; same = λ n. h; wrote = λ n. refl }
 
-  pub largestX-fits : (q : Limits) → Fits b (largestXAsked c q) (plainLargestX q b) []
+  pub largestX-fits : (q : Limits) → FitsPlain b (largestXAsked c q) (plainLargestX q b) []
   unfolding largestXAsked plainLargestX
   largestX-fits q = record { lines = refl; outcome = largestX-same q; same = λ n. h; wrote = λ n. refl }
 
-  pub smallestY-fits : (x0 x1 : ℕ) → Fits b (smallestYAsked c x0 x1) (plainSmallestY x0 x1 b) []
+  pub smallestY-fits : (x0 x1 : ℕ) → FitsPlain b (smallestYAsked c x0 x1) (plainSmallestY x0 x1 b) []
   unfolding smallestYAsked plainSmallestY
   smallestY-fits x0 x1 = record { lines = refl; outcome = smallestY-same x0 x1; same = λ n. h; wrote = λ n. refl }
 
-  pub first-fits : (u : ℕ) → Fits b (firstToEnd c u) (plainFirst u b) []
+  pub first-fits : (u : ℕ) → FitsPlain b (firstToEnd c u) (plainFirst u b) []
   unfolding firstToEnd plainFirst
   first-fits u = record { lines = refl; outcome = smallestX-same (coversLimits u); same = λ n. h; wrote = λ n. refl }
 
-  pub last-fits : (u e : ℕ) → Fits b (lastToEnd c u e) (plainLast u e b) []
+  pub last-fits : (u e : ℕ) → FitsPlain b (lastToEnd c u e) (plainLast u e b) []
   unfolding lastToEnd plainLast
   last-fits u e = record { lines = refl; outcome = largestX-same (lastLimits u e); same = λ n. h; wrote = λ n. refl }
 
-  pub earliest-fits : (u v : ℕ) → Fits b (earliestStart c u v) (plainEarliest u v b) []
+  pub earliest-fits : (u v : ℕ) → FitsPlain b (earliestStart c u v) (plainEarliest u v b) []
   unfolding earliestStart plainEarliest
   earliest-fits u v = record { lines = refl; outcome = smallestY-same (u * 65536) (v * 65536 + 65535); same = λ n. h; wrote = λ n. refl }
 
@@ -177,7 +178,7 @@ module _ {c : List ℕ} {b : Book} (h : Same c b) where
   matches-same q = those-count (matches q) (stored c) (b .pairs) (stored-apart s) (h .apart) (h .alike)
 
   lists-fit : (ls : List Line) (q : Limits) (out : List ℕ)
-      → Fits b (walkListed (lists ls (roomOf out) (those (matches q) (stored c)) (bookOf c)) c q out) (lists ls (roomOf out) (those (matches q) (b .pairs)) b) out
+      → FitsPlain b (walkListed (lists ls (roomOf out) (those (matches q) (stored c)) (bookOf c)) c q out) (lists ls (roomOf out) (those (matches q) (b .pairs)) b) out
   lists-fit ls q out =
       let ps : List Pair = those (matches q) (members (treeOf c)) in
       record {
@@ -197,19 +198,19 @@ module _ {c : List ℕ} {b : Book} (h : Same c b) where
         };
       }
 
-  pub listing-fits : (q : Limits) (out : List ℕ) → Fits b (listingAsked c q out) (plainListing q (roomOf out) b) out
+  pub listing-fits : (q : Limits) (out : List ℕ) → FitsPlain b (listingAsked c q out) (plainListing q (roomOf out) b) out
   unfolding listingAsked plainListing
   listing-fits q out = lists-fit _ q out
 
-  pub covers-fits : (u : ℕ) (out : List ℕ) → Fits b (listCovers c u out) (plainCovers u (roomOf out) b) out
+  pub covers-fits : (u : ℕ) (out : List ℕ) → FitsPlain b (listCovers c u out) (plainCovers u (roomOf out) b) out
   unfolding listCovers plainCovers
   covers-fits u out = lists-fit _ (coversLimits u) out
 
-  pub meets-fits : (u v : ℕ) (out : List ℕ) → Fits b (listMeets c u v out) (plainMeets u v (roomOf out) b) out
+  pub meets-fits : (u v : ℕ) (out : List ℕ) → FitsPlain b (listMeets c u v out) (plainMeets u v (roomOf out) b) out
   unfolding listMeets plainMeets
   meets-fits u v out = lists-fit _ (meetsLimits u v) out
 
-  pub contains-fits : (u v : ℕ) (out : List ℕ) → Fits b (listContains c u v out) (plainContains u v (roomOf out) b) out
+  pub contains-fits : (u v : ℕ) (out : List ℕ) → FitsPlain b (listContains c u v out) (plainContains u v (roomOf out) b) out
   unfolding listContains plainContains
   contains-fits u v out = lists-fit _ (containsLimits u v) out
 
@@ -223,7 +224,7 @@ module _ {c : List ℕ} {b : Book} (h : Same c b) where
   unfolding bookBytes
   book-same = rw (as-many, sorted-same)
 
-  pub save-fits : (bytes : List ℕ) → Fits b (saved c bytes) (plainSave versionOne bytes b) bytes
+  pub save-fits : (bytes : List ℕ) → FitsPlain b (saved c bytes) (plainSave versionOne bytes b) bytes
   unfolding saved plainSave
   save-fits bytes = record {
     lines = rw as-many;

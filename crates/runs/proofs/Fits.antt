@@ -1,10 +1,10 @@
--- A promise fits a call over a plain list where they have the same lines and the same outcome, and, where no line holds, leave the same pairs
--- and write alike. Then the call ends alike over both: shown once for all calls, and each call only says how it fits.
+-- A promise fits a call over a plain list where both have the same lines and outcome and, where no line holds, leave the same pairs and write
+-- alike; so the call ends alike over both, shown once for all calls. It assumes a sound pool and a list with the same pairs (`Same`).
 use Prim.Native.Nat.{ℕ}
 use mathlib.Core.Path.{_≡_, refl}
 use mathlib.Core.List.{List, [], _∷_}
-use Rattle.kinds.specs.Promise.{Line, Result, Promise, NoLine, byLines, given}
-use Rattle.kinds.proofs.Tables.{passed}
+use Rattle.kinds.specs.Promise.{Line, Result, Promise, byLines, given}
+use Rattle.kinds.proofs.Tables.{NoLine, passed}
 use Rattle.kinds.proofs.Tests.{on}
 use Rattle.plain.specs.Books.{Book, Plainly}
 use Rattle.sound.specs.Promises.{checkLines, behindCheck}
@@ -17,7 +17,7 @@ pub record Ends (out : List ℕ) (w : Result) (e : Kept) : Type 0 where
   pub wrote : Wrote (e .writing) out (w .lent)
   pub same : Same (w .cells) (e .book)
 
-pub record Fits (b : Book) (P : Promise) (k : Plainly) (out : List ℕ) : Type 0 where
+pub record FitsPlain (b : Book) (P : Promise) (k : Plainly) (out : List ℕ) : Type 0 where
   pub lines : P .lines ≡ k .lines
   pub outcome : P .made .answer .outcome ≡ k .outcome
   pub same : NoLine (k .lines) → Same (P .made .cells) (record { pairs = k .pairs; room = b .room })
@@ -33,7 +33,7 @@ module _ {c : List ℕ} {b : Book} (h : Same c b) (out : List ℕ) (w : Result) 
       (λ f. let E = by-lines ls (λ n. s (f, n)) (λ n. r (f, n)) in rw f E)
 
 -- law: a call that fits ends alike over cells and over a plain list
-pub fits-ends : {c : List ℕ} {b : Book} {P : Promise} {k : Plainly} {out : List ℕ} → Same c b → Fits b P k out
+pub fits-ends : {c : List ℕ} {b : Book} {P : Promise} {k : Plainly} {out : List ℕ} → Same c b → FitsPlain b P k out
     → Ends out (given (behindCheck c P) c out) (kept b k)
 fits-ends {c} {b} {P} {k} {out} h F =
     rw (passed c out (P .made) (checkLines c) (P .lines) (no-line (h .sound)), F .lines)

@@ -1,4 +1,5 @@
--- Playing any calls over a sound pool ends, call by call, as the same calls over a plain list with the same pairs.
+-- Playing any calls over a sound pool ends, call by call, as the same calls over a plain list with the same pairs. The x of an inserted pair is
+-- of 32 bits.
 use Prim.Native.Nat.{ℕ}
 use mathlib.Core.Path.{refl, _∙_}
 use mathlib.Core.List.{List, [], _∷_}

@@ -1,6 +1,5 @@
--- Any run of any calls, taken back by what was answered: each reversal is accepted, and every cell is as at the start, or as the last set up left
--- it. One call at a time: what it
--- leaves is taken back by its reversal, or is what it found. Assumed: the x of an inserted pair is of 32 bits.
+-- Any run of any calls, taken back by what was answered: each reversal is accepted, and every cell is as at the start or as the last set up left
+-- it. One call at a time: its reversal takes it back, or it changed nothing. It assumes that the x of an inserted pair is of 32 bits.
 use Prim.Native.Nat.{ℕ, _<_}
 use mathlib.Core.Path.{_≡_, refl, ap, _∙_}
 use mathlib.Core.Logic.{_≢_}
@@ -13,7 +12,7 @@ use Rattle.kinds.specs.declared.Limits.{Limits}
 use Rattle.kinds.specs.declared.Pair.{Pair}
 use Rattle.kinds.specs.Answer.{five, numbersOf}
 use Rattle.kinds.specs.Promise.{Line, Result, Promise, byLines, given, accepted}
-use Rattle.kinds.proofs.Tables.{Decided, decided, refused-same, accepted-made}
+use Rattle.kinds.proofs.Tables.{Decided, table-decided, refused-same, accepted-made}
 use Rattle.kinds.proofs.Tests.{on, clash}
 use Rattle.plain.specs.Strips.{badStrip, plainOpen, plainClose}
 use Rattle.plain.specs.Books.{plainInsert, plainDelete}
@@ -30,20 +29,20 @@ use Rattle.sound.specs.Promises.{setUp}
 use Rattle.sound.proofs.Meaning.{set-up-stored}
 use Rattle.promises.specs.Promises.{insertion, deletion, opening, closing, smallestXAsked, largestXAsked, smallestYAsked, firstToEnd, lastToEnd, earliestStart, listingAsked, listCovers, listMeets, listContains, saved}
 use Rattle.plain.proofs.Limits.{strip-small}
-use Rattle.pool.proofs.Changes.{inserts, deletes, insert-made, delete-made, insert-accepted, delete-accepted, insert-refused, delete-refused, insert-stored, delete-stored, delete-gone}
+use Rattle.pool.proofs.Changes.{insertGives, deleteGives, insert-made, delete-made, insert-accepted, delete-accepted, insert-refused, delete-refused, insert-stored, delete-stored, delete-gone}
 use Rattle.runs.specs.Calls.{Named, pairOf, Call, set-up, check, insert, delete, smallest-x, largest-x, smallest-y, list, opens, closes, first, last, earliest, covers, meets, contains, save, promised, play, SmallX, Each}
 use Rattle.runs.specs.TakingBack.{Reversal, by, needless, anew, reverse, Ran, after, goOn, run, from, takeBack, Gains, Does, Did, TakenBack}
 
 module _ (c : List ℕ) (p : Pair) where
   -- law: what an accepted insert stored was not stored, and is taken out again, and every cell is as it was
-  pub insert-gains : p .x < 4294967296 → accepted (inserts c p) ≡ true → Gains p c (inserts c p .cells)
+  pub insert-gains : p .x < 4294967296 → accepted (insertGives c p) ≡ true → Gains p c (insertGives c p .cells)
   insert-gains b t = record {
     new = λ m. let e = insert-accepted c p t .0 in clash (true-hasX p (p .x) (stored c) m refl) (of-new (e .sound) (p .x) (e .new));
     rest = insert-stored c p b t;
   }
 
-  insert-back : p .x < 4294967296 → accepted (inserts c p) ≡ true
-      → (deletes (inserts c p .cells) p .cells ≡ c) × (accepted (deletes (inserts c p .cells) p) ≡ true)
+  insert-back : p .x < 4294967296 → accepted (insertGives c p) ≡ true
+      → (deleteGives (insertGives c p .cells) p .cells ≡ c) × (accepted (deleteGives (insertGives c p .cells) p) ≡ true)
   unfolding insertion deletion plainDelete five numbersOf
   insert-back b t =
       let m = insert-accepted c p t in
@@ -53,10 +52,10 @@ module _ (c : List ℕ) (p : Pair) where
       rw (m .1, d) (inserted-back (e .sound) p (e .new) b (e .room), refl)
 
   -- law: what an accepted delete took out is not stored, and is stored again, and every cell is as it was
-  pub delete-loses : accepted (deletes c p) ≡ true → Gains p (deletes c p .cells) c
+  pub delete-loses : accepted (deleteGives c p) ≡ true → Gains p (deleteGives c p .cells) c
   delete-loses t = record { new = λ m. delete-gone c p t p m refl; rest = delete-stored c p t }
 
-  delete-back : accepted (deletes c p) ≡ true → (inserts (deletes c p .cells) p .cells ≡ c) × (accepted (inserts (deletes c p .cells) p) ≡ true)
+  delete-back : accepted (deleteGives c p) ≡ true → (insertGives (deleteGives c p .cells) p .cells ≡ c) × (accepted (insertGives (deleteGives c p .cells) p) ≡ true)
   unfolding insertion deletion plainInsert five numbersOf
   delete-back t =
       let m = delete-accepted c p t in
@@ -70,21 +69,21 @@ module _ (c : List ℕ) (n : Named) where
   abbrev bad : Bool
   bad = badStrip (n .start) (n .end) (n .number)
 
-  open-passed : bad ≡ false → play c (opens n) ≡ inserts c (pairOf n)
+  open-passed : bad ≡ false → play c (opens n) ≡ insertGives c (pairOf n)
   unfolding promised opening plainOpen insertion plainInsert byLines
   open-passed f = rw f
 
-  close-passed : bad ≡ false → play c (closes n) ≡ deletes c (pairOf n)
+  close-passed : bad ≡ false → play c (closes n) ≡ deleteGives c (pairOf n)
   unfolding promised closing plainClose deletion plainDelete byLines
   close-passed f = rw f
 
   open-view : Decided (promised c (opens n) .lines) c [] (promised c (opens n) .made) (play c (opens n))
   unfolding promised opening plainOpen
-  open-view = decided _ c [] _ (omega arith, (omega arith, (omega arith, (omega arith, (omega arith, tt)))))
+  open-view = table-decided _ c [] _ (omega arith, (omega arith, (omega arith, (omega arith, (omega arith, tt)))))
 
   close-view : Decided (promised c (closes n) .lines) c [] (promised c (closes n) .made) (play c (closes n))
   unfolding promised closing plainClose
-  close-view = decided _ c [] _ (omega arith, (omega arith, (omega arith, (omega arith, (omega arith, tt)))))
+  close-view = table-decided _ c [] _ (omega arith, (omega arith, (omega arith, (omega arith, (omega arith, tt)))))
 
   open-good : accepted (play c (opens n)) ≡ true → bad ≡ false
   unfolding promised opening plainOpen
@@ -177,7 +176,7 @@ module _ (c : List ℕ) where
 
   set-up-view : Decided (setUp c .lines) c [] (setUp c .made) (play c set-up)
   unfolding promised setUp
-  set-up-view = decided _ c [] _ (omega arith, tt)
+  set-up-view = table-decided _ c [] _ (omega arith, tt)
 
   set-up-empties : accepted (play c set-up) ≡ true → stored (play c set-up .cells) ≡ []
   unfolding promised setUp
@@ -193,7 +192,7 @@ open-back c n t =
     let f = open-good c n t in
     let e = open-passed c n f in
     let i = insert-back c (pairOf n) (small-x n f) (rw e at t) in
-    let d = close-passed (inserts c (pairOf n) .cells) n f in
+    let d = close-passed (insertGives c (pairOf n) .cells) n f in
     rw e (record { cells = rw d (i .0); taken = rw d (i .1) })
 
 close-back : (c : List ℕ) (n : Named) → accepted (play c (closes n)) ≡ true → Back c (play c (closes n) .cells) (opens n)
@@ -201,7 +200,7 @@ close-back c n t =
     let f = close-good c n t in
     let e = close-passed c n f in
     let i = delete-back c (pairOf n) (rw e at t) in
-    let d = open-passed (deletes c (pairOf n) .cells) n f in
+    let d = open-passed (deleteGives c (pairOf n) .cells) n f in
     rw e (record { cells = rw d (i .0); taken = rw d (i .1) })
 
 -- one accepted call
@@ -323,10 +322,10 @@ not-anew (contains u v out) a d e = clash (ap isAnew e) refl
 not-anew (save bytes) a d e = clash (ap isAnew e) refl
 
 -- law: where nothing is set up anew, taking back counts from the start
-pub since-start : (ks : List Call) (r : Ran) → Each (λ k. k ≢ set-up) ks → run ks r .since ≡ r .since
+pub since-from-start : (ks : List Call) (r : Ran) → Each (λ k. k ≢ set-up) ks → run ks r .since ≡ r .since
 unfolding run
-since-start [] r n = refl
-since-start (k ∷ ks) r n = since-start ks (goOn r k) (n .1) ∙ kept r k (n .0)
+since-from-start [] r n = refl
+since-from-start (k ∷ ks) r n = since-from-start ks (goOn r k) (n .1) ∙ kept r k (n .0)
   where
     same : (v : Reversal) (w : Result) (r : Ran) → v ≢ anew → after v w r .since ≡ r .since
     same (by k) w r d = refl
@@ -341,4 +340,4 @@ since-start (k ∷ ks) r n = since-start ks (goOn r k) (n .1) ∙ kept r k (n .0
 -- law: then every cell is as at the start
 pub taken-back-whole : (ks : List Call) (c : List ℕ) → Each SmallX ks → Each (λ k. k ≢ set-up) ks
     → takeBack (run ks (from c) .back) (run ks (from c) .cells) ≡ record { cells = c; all = true }
-taken-back-whole ks c b n = taken-back ks c b .returned ∙ ap (λ d. record { cells = d; all = true }) (since-start ks (from c) n)
+taken-back-whole ks c b n = taken-back ks c b .returned ∙ ap (λ d. record { cells = d; all = true }) (since-from-start ks (from c) n)

@@ -1,5 +1,5 @@
--- What can be asked has exactly one line.
-use Prim.Native.Nat.{ℕ, _+_, _*_, _≤_}
+-- What can be asked has exactly one line. It assumes numbers of 32 bits; a line that is read has no others.
+use Prim.Native.Nat.{ℕ, _*_, _≤_}
 use mathlib.Core.Path.{_≡_, refl, sym, ap, _∙_}
 use mathlib.Core.Bool.{true}
 use mathlib.Core.List.{List, [], _∷_, _++_, map}
@@ -17,7 +17,7 @@ use Rattle.line.proofs.Words.{some-word}
 use Rattle.text.specs.Text.{decimal}
 use Rattle.text.proofs.Printing.{item-few, append-none}
 use Rattle.text.proofs.Decimal.{decimal-value, decimal-number, decimal-digits, number-decimal}
-use Rattle.script.specs.Spelled.{spaced, numbersOf, spelled, AllFit}
+use Rattle.script.specs.Spelled.{spaced, numbersAsked, spelled, AllFit}
 
 word-then : (w t : List ℕ) → allDigits w ≡ true → words (w ++ (space ∷ t)) ≡ w ∷ words t
 unfolding words allDigits
@@ -71,7 +71,7 @@ reads letter ns d h k =
     simp (le-ltb 63 (length (letter ∷ spaced ns)) (omega arith), line-words letter ns d, all-numbers ns h, all-values ns h)
 
 -- law: what is asked with numbers of 32 bits is read from its line
-pub spelled-read : (k : Asked) → AllFit (numbersOf k) → askedBy (spelled k) ≡ k
+pub spelled-read : (k : Asked) → AllFit (numbersAsked k) → askedBy (spelled k) ≡ k
 spelled-read (Open start end number) h = reads 111 (start ∷ end ∷ number ∷ []) (eqb-false 111 space refl) h (omega arith)
 spelled-read (Close start end number) h = reads 99 (start ∷ end ∷ number ∷ []) (eqb-false 99 space refl) h (omega arith)
 spelled-read (First u) h = reads 102 (u ∷ []) (eqb-false 102 space refl) h (omega arith)

@@ -12,13 +12,13 @@ spaced [] = []
 spaced (n ∷ ns) = space ∷ (decimal n ++ spaced ns)
 
 -- the numbers that are asked with
-abbrev pub numbersOf : Asked → List ℕ
-numbersOf (Open start end number) = start ∷ end ∷ number ∷ []
-numbersOf (Close start end number) = start ∷ end ∷ number ∷ []
-numbersOf (First u) = u ∷ []
-numbersOf (Last u e) = u ∷ e ∷ []
-numbersOf (Covers u) = u ∷ []
-numbersOf Malformed = []
+abbrev pub numbersAsked : Asked → List ℕ
+numbersAsked (Open start end number) = start ∷ end ∷ number ∷ []
+numbersAsked (Close start end number) = start ∷ end ∷ number ∷ []
+numbersAsked (First u) = u ∷ []
+numbersAsked (Last u e) = u ∷ e ∷ []
+numbersAsked (Covers u) = u ∷ []
+numbersAsked Malformed = []
 
 -- o, c, f, l, a
 abbrev pub letterOf : Asked → ℕ
@@ -31,7 +31,7 @@ letterOf Malformed = 0
 
 -- the line: the letter, and each number after a space
 abbrev pub spelled : Asked → List ℕ
-spelled k = letterOf k ∷ spaced (numbersOf k)
+spelled k = letterOf k ∷ spaced (numbersAsked k)
 
 -- every number is one of 32 bits
 abbrev pub AllFit : List ℕ → Type 0

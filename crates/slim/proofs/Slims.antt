@@ -5,7 +5,7 @@ use mathlib.Core.Path.{_≡_, refl, sym, ap, _∙_}
 use native.Mathlib.Omega.{arith}
 use native.Mathlib.Nat.{two-pow-succ}
 use Rattle.kinds.specs.Stripe.{lowLevels, middle, leftPart, rightPart}
-use Rattle.kinds.proofs.Heights.{some}
+use Rattle.kinds.proofs.Heights.{power-some}
 use Rattle.slim.specs.declared.Slim.{Slim}
 use Rattle.slim.specs.Slim.{wide, stripeBy, rootSlim, leftSlim, rightSlim, MiddleFits, SlimAt}
 
@@ -27,15 +27,15 @@ wide-at zero = refl
 wide-at (suc k) =
     let e = two-pow-succ k in
     let h : 2 ^ suc k / 2 ≡ 2 ^ k = omega arith in
-    ap wide h ∙ (wide-some (2 ^ k) (some k) ∙ sym e)
+    ap wide h ∙ (wide-some (2 ^ k) (power-some k) ∙ sym e)
 
-pub root-at : SlimAt lowLevels rootSlim
-root-at = record { half = refl; low = omega arith }
+pub root-slim : SlimAt lowLevels rootSlim
+root-slim = record { half = refl; low = omega arith }
 
 module _ (k : ℕ) (s : Slim) (h : SlimAt k s) where
   -- law: its middle is a number of 32 bits
   pub slim-fits : MiddleFits s
-  slim-fits = let w = some k in let a = h .half in let b = h .low in omega arith
+  slim-fits = let w = power-some k in let a = h .half in let b = h .low in omega arith
 
 module _ (k : ℕ) (s : Slim) (h : SlimAt (suc k) s) where
   half-is : s .half ≡ 2 ^ k
@@ -64,7 +64,7 @@ module _ (k : ℕ) (s : Slim) (h : SlimAt (suc k) s) where
   right-part = λ i. record { lower = sym (middle-by s) i; upper = up i }
     where
       all : wide (s .half) ≡ 2 ^ k + 2 ^ k
-      all = ap wide half-is ∙ wide-some (2 ^ k) (some k)
+      all = ap wide half-is ∙ wide-some (2 ^ k) (power-some k)
 
       up : s .lower + s .half + wide (s .half / 2) ≡ s .lower + wide (s .half)
       up = let a = half-is in let b = all in let d = wide-next in omega arith

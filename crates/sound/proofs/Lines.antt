@@ -9,8 +9,8 @@ use native.Mathlib.Omega.{arith}
 use borrow.Author.Tests.{ne-eqb, not-false}
 use Rattle.kinds.specs.declared.Answer.{Answer}
 use Rattle.kinds.specs.Answer.{refused, ended}
-use Rattle.kinds.specs.Promise.{given, Promise, NoLine, Keeps}
-use Rattle.kinds.proofs.Tables.{passed, none-holds, none-of, no-code, decides, refuses-code}
+use Rattle.kinds.specs.Promise.{given, Promise, Keeps}
+use Rattle.kinds.proofs.Tables.{NoLine, passed, none-holds, none-of, no-code, decides, refuses-code}
 use Rattle.pools.specs.Sound.{Sound}
 use Rattle.pools.proofs.Decided.{true-pool, test-sound, sound-test}
 use Rattle.sound.specs.Promises.{checkLines, verdictOf, behindCheck}

@@ -1,5 +1,5 @@
 -- The code that the tests of the numbers give is that of the first line that holds; and numbers that no line refuses are at most 65,535, so that
--- what is made of them is of 32 bits.
+-- what is made of them is of 32 bits. Nothing else is assumed.
 use Prim.Native.Nat.{ℕ, _≤_, _<_}
 use mathlib.Core.Path.{_≡_, sym, _∙_}
 use mathlib.Core.Bool.{Bool, true, false, _||_}
@@ -8,10 +8,10 @@ use native.Mathlib.Omega.{arith}
 use lib.Dec.{ltb}
 use borrow.Author.Tests.{ltb-false, lt-ltb, le-ltb}
 use Rattle.kinds.specs.Codes as codes
-use Rattle.kinds.specs.Promise.{Line, NoLine, firstCode}
-use Rattle.kinds.proofs.Tables.{none-of, no-code}
+use Rattle.kinds.specs.Promise.{Line, firstCode}
+use Rattle.kinds.proofs.Tables.{NoLine, none-of, no-code}
 use Rattle.kinds.proofs.Tests.{neither}
-use Rattle.plain.proofs.Limits.{strip-fits as numbers-fit}
+use Rattle.plain.proofs.Limits.{strip-fits}
 use Rattle.plain.specs.Strips.{over, badStrip, stripLine, orderLine, stripLines, slotLines, slotsLines}
 
 -- a line that holds gives its code
@@ -58,11 +58,11 @@ pub strip-off : (start end number : ℕ) → firstCode (stripLines start end num
 strip-off start end number e = none-of (stripLines start end number) (omega arith, tt) e
 
 -- law: so the numbers fit
-pub slot-fits : (u : ℕ) → firstCode (slotLines u) ≡ 0 → u ≤ 65535
-slot-fits u e = ltb-false 65535 u (slot-off u e .0)
+pub slot-small : (u : ℕ) → firstCode (slotLines u) ≡ 0 → u ≤ 65535
+slot-small u e = ltb-false 65535 u (slot-off u e .0)
 
-pub slots-fit : (u v : ℕ) → firstCode (slotsLines u v) ≡ 0 → (u ≤ 65535) × (v ≤ 65535)
-slots-fit u v e = let a = neither (over u) (over v) (slots-off u v e .0) in (ltb-false 65535 u (a .0), ltb-false 65535 v (a .1))
+pub slots-small : (u v : ℕ) → firstCode (slotsLines u v) ≡ 0 → (u ≤ 65535) × (v ≤ 65535)
+slots-small u v e = let a = neither (over u) (over v) (slots-off u v e .0) in (ltb-false 65535 u (a .0), ltb-false 65535 v (a .1))
 
-pub strip-fits : (start end number : ℕ) → firstCode (stripLines start end number) ≡ 0 → (end ≤ 65535) × (number ≤ 65535)
-strip-fits start end number e = numbers-fit start end number (strip-off start end number e .0)
+pub strip-parts-small : (start end number : ℕ) → firstCode (stripLines start end number) ≡ 0 → (end ≤ 65535) × (number ≤ 65535)
+strip-parts-small start end number e = strip-fits start end number (strip-off start end number e .0)

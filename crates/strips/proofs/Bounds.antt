@@ -9,20 +9,20 @@ use Rattle.pools.specs.Cells.{treeOf}
 use Rattle.pools.proofs.InTree.{tree-well}
 use Rattle.sound.specs.Promises.{behindCheck}
 use Rattle.promises.specs.Promises.{firstToEnd, lastToEnd, earliestStart, listingAsked, listCovers, listMeets, listContains}
-use Rattle.pool.specs.Showing.{FewVisits}
-use Rattle.pool.proofs.Bounds.{Within, entry-bound, entry-few, listed-few}
+use Rattle.pool.specs.Showing.{VisitsWithin, FewVisits}
+use Rattle.pool.proofs.Bounds.{entry-bound, entry-few, listed-few}
 
 module _ (c : List ℕ) where
   -- law: the questions for one strip
-  pub first-bound : (u : ℕ) → Within 127 (given (behindCheck c (firstToEnd c u)) c [] .answer)
+  pub first-bound : (u : ℕ) → VisitsWithin 127 (given (behindCheck c (firstToEnd c u)) c [] .answer)
   unfolding firstToEnd plainFirst
   first-bound u = entry-bound (firstToEnd c u) c [] 127 (λ s. smallestX-visits (coversLimits u) (treeOf c) (tree-well s))
 
-  pub last-bound : (u e : ℕ) → Within 127 (given (behindCheck c (lastToEnd c u e)) c [] .answer)
+  pub last-bound : (u e : ℕ) → VisitsWithin 127 (given (behindCheck c (lastToEnd c u e)) c [] .answer)
   unfolding lastToEnd plainLast
   last-bound u e = entry-bound (lastToEnd c u e) c [] 127 (λ s. largestX-visits (lastLimits u e) (treeOf c) (tree-well s))
 
-  pub earliest-bound : (u v : ℕ) → Within 127 (given (behindCheck c (earliestStart c u v)) c [] .answer)
+  pub earliest-bound : (u v : ℕ) → VisitsWithin 127 (given (behindCheck c (earliestStart c u v)) c [] .answer)
   unfolding earliestStart plainEarliest
   earliest-bound u v = entry-bound (earliestStart c u v) c [] 127 (λ s. smallestY-visits (u * 65536) (v * 65536 + 65535) (treeOf c) (tree-well s))
 

@@ -1,4 +1,4 @@
--- What the strip questions answer, in a rider's words.
+-- What the strip questions answer, in a rider's words. It assumes a sound pool, and slots that the call lets through.
 use Prim.Native.Nat.{ℕ, _+_, _*_, _≤_, _<_}
 use mathlib.Core.Path.{_≡_, refl}
 use mathlib.Core.Logic.{_↔_}

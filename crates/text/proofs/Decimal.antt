@@ -1,4 +1,4 @@
--- A printed number reads as itself, and no other word does.
+-- A printed number reads as itself, and no other word does. It assumes a number of 32 bits.
 use Prim.Native.Nat.{ℕ, zero, suc, _+_, _*_, _-_, _/_, _^_, _≤_, _<_}
 use mathlib.Core.Path.{_≡_, refl, sym, ap, _∙_}
 use mathlib.Core.Bool.{true, false, true≢false, not}

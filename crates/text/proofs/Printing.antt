@@ -1,4 +1,4 @@
--- Numbers and rows of numbers, stored one after the other.
+-- Numbers and rows of numbers, stored one after the other. What follows a number assumes room for it.
 use Prim.Native.Nat.{ℕ, zero, suc, _+_, _*_, _-_, _/_, _%_, _≤_, _<_, min}
 use mathlib.Core.Path.{_≡_, refl, sym, ap, _∙_}
 use mathlib.Core.List.{List, [], _∷_, _++_}

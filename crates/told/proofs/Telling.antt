@@ -1,4 +1,4 @@
--- A call that tells an answer tells the promised one, since the answer is the promised one.
+-- A call that tells an answer tells the promised one, since the answer is the promised one. Nothing else is assumed.
 use Prim.Native.Nat.{ℕ}
 use mathlib.Core.Path.{_≡_, ap, sym, _∙_}
 use mathlib.Core.List.{List, [], _∷_}
@@ -7,7 +7,7 @@ use Rattle.kinds.specs.declared.Five.{Five}
 use Rattle.kinds.specs.Answer.{five, ended}
 use Rattle.kinds.specs.Promise.{Promise, Keeps}
 use Rattle.kinds.proofs.Numbers.{ended-numbers}
-use Rattle.told.specs.Told.{codeOf, numbers, Numbered, Tells, TellsCode}
+use Rattle.told.specs.Told.{codeOf, arrayOf, Numbered, Tells, TellsCode}
 
 -- law: the code of the answer's numbers
 pub code-told : (a : Answer) {n : Five} → n ≡ five a → n .code ≡ codeOf a
@@ -16,7 +16,7 @@ code-told a e = ap (λ n. n .code) e
 
 -- law: the five of them, laid side by side
 pub all-told : (a : Answer) {n : Five} → n ≡ five a → Numbered a (n .code ∷ n .x ∷ n .y ∷ n .count ∷ n .visits ∷ []) (n .code)
-unfolding numbers
+unfolding arrayOf
 all-told a e = record { code = code-told a e; array = rw e }
 
 -- law: a code, and four zeros beside it, where a change ends with that code
@@ -29,7 +29,7 @@ module _ {P : Promise} {c c′ : List ℕ} {a : Answer} {r : ℕ} where
   tells k t =
       let g = k .gives in
       record {
-        answer = record { code = t .code ∙ ap codeOf (g .answer); array = t .array ∙ ap numbers (g .answer) };
+        answer = record { code = t .code ∙ ap codeOf (g .answer); array = t .array ∙ ap arrayOf (g .answer) };
         cells = g .cells;
         lent = g .lent;
       }

@@ -11,13 +11,13 @@ unfoldable pub codeOf : Answer → ℕ
 codeOf a = five a .code
 
 -- the five numbers of an answer, in the order of the array that is lent for them
-unfoldable pub numbers : Answer → List ℕ
-numbers a = five a .code ∷ five a .x ∷ five a .y ∷ five a .count ∷ five a .visits ∷ []
+unfoldable pub arrayOf : Answer → List ℕ
+arrayOf a = five a .code ∷ five a .x ∷ five a .y ∷ five a .count ∷ five a .visits ∷ []
 
 -- an answer's code, and the array that holds its five numbers
 pub record Numbered (a : Answer) (told : List ℕ) (r : ℕ) : Type 0 where
   pub code : r ≡ codeOf a
-  pub array : told ≡ numbers a
+  pub array : told ≡ arrayOf a
 
 -- a call that is lent an array keeps its promise: the code and the five numbers of the promised answer, the promised cells, and the promised lent ones
 pub record Tells (P : Promise) (c out : List ℕ) (r : ℕ) (c′ out′ told : List ℕ) : Type 0 where

@@ -10,10 +10,12 @@ use lib.Dec.{ltb}
 use borrow.Author.Tests.{eq-eqb, ne-eqb}
 use Rattle.kinds.specs.declared.Pair.{Pair}
 use Rattle.kinds.specs.Pairs.{beats}
-use Rattle.kinds.specs.Stripe.{lowLevels, Stripe, Low, middle, leftPart, rightPart}
+use Rattle.kinds.specs.Stripe.{lowLevels, Stripe, middle, leftPart, rightPart}
+use Rattle.kinds.specs.Heights.{Low}
 use Rattle.trees.specs.Tree.{size}
 use Rattle.trees.specs.Changes.{met}
-use Rattle.pools.specs.Cells.{Fits, pairAt, leftAt, rightAt, treeAt}
+use Rattle.pools.specs.Cells.{pairAt, leftAt, rightAt, treeAt}
+use Rattle.pools.specs.Links.{Fits}
 use Rattle.pools.specs.Test.{slotFine, alone, fine, below}
 use Rattle.pools.proofs.Leads.{back, tree-none, tree-fork, few}
 use Rattle.pools.proofs.Decided.{fine-true}
@@ -23,13 +25,13 @@ use Rattle.tree.specs.declared.Checked.{Checked}
 use Rattle.tree.specs.declared.Checked.the-variants.{Counted, Faulty}
 use Rattle.tree.specs.declared.Son.{Son}
 use Rattle.tree.specs.declared.Son.the-variants.{Empty, Leaf, Fork, Bad}
-use Rattle.tree.specs.Checked.{counted, fromLink, fromSlot, SonIs, empty, leaf, branch, bad}
+use Rattle.tree.specs.Checked.{countIf, fromLink, fromSlot, SonIs, empty, leaf, branch, bad}
 
-pub was-counted : (b : Bool) (n a : ℕ) → counted b n ≡ Counted a → (b ≡ true) × (n ≡ a)
+pub was-counted : (b : Bool) (n a : ℕ) → countIf b n ≡ Counted a → (b ≡ true) × (n ≡ a)
 was-counted true n a h = (refl, cc)
 was-counted false n a h = let z : _≡_ {A = ℕ} 0 1 = cc in absurd (omega arith)
 
-pub was-faulty : (b : Bool) (n : ℕ) → counted b n ≡ Faulty → b ≡ false
+pub was-faulty : (b : Bool) (n : ℕ) → countIf b n ≡ Faulty → b ≡ false
 was-faulty true n h = cc
 was-faulty false n h = refl
 
@@ -59,7 +61,7 @@ module _ (c : List ℕ) (k : ℕ) (p : Pair) (s : ℕ) (at : Stripe) where
         tree-none c j (rightAt c s) r,
       ) (go (ltb (pairAt c s .x) (middle at)))
     where
-      go : (b : Bool) → Counted 1 ≡ counted (not (cond b false false)) (0 + 0 + 1)
+      go : (b : Bool) → Counted 1 ≡ countIf (not (cond b false false)) (0 + 0 + 1)
       go true = refl
       go false = refl
 

@@ -15,20 +15,20 @@ use Rattle.tree.specs.declared.Son.{Son}
 use Rattle.tree.specs.declared.Son.the-variants.{Empty, Leaf, Fork, Bad}
 
 -- so many slots where all is fine, or faulty
-abbrev pub counted : Bool → ℕ → Checked
-counted ok n = cond ok (Counted n) Faulty
+abbrev pub countIf : Bool → ℕ → Checked
+countIf ok n = cond ok (Counted n) Faulty
 
 -- from a link down
 unfoldable pub fromLink : List ℕ → ℕ → Pair → ℕ → Stripe → Checked
-fromLink c k p s at = counted (fine c k p s at) (size (treeAt c k s))
+fromLink c k p s at = countIf (fine c k p s at) (size (treeAt c k s))
 
 -- from a slot down whose own tests have passed
 unfoldable pub fromSlot : List ℕ → ℕ → ℕ → Stripe → Checked
-fromSlot c k s at = counted (below c k s at) (size (treeAt c k (leftAt c s)) + size (treeAt c k (rightAt c s)) + 1)
+fromSlot c k s at = countIf (below c k s at) (size (treeAt c k (leftAt c s)) + size (treeAt c k (rightAt c s)) + 1)
 
 -- from the root down
 unfoldable pub fromRoot : List ℕ → Checked
-fromRoot c = counted (rootFine c) (size (treeAt c allLevels (rootOf c)))
+fromRoot c = countIf (rootFine c) (size (treeAt c allLevels (rootOf c)))
 
 -- what a son is, where k levels are left: no slot, a slot that passes its own tests, without sons or with, or a fault
 pub data SonIs (c : List ℕ) (k : ℕ) (p : Pair) (s : ℕ) (at : Stripe) : Son → Type 0 where

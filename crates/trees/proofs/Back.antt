@@ -1,9 +1,11 @@
--- Taking back, slots included: what was put in is taken out, what was taken out is put in.
+-- Taking back, slots included: what was put in is taken out, what was taken out is put in. It assumes a well-formed tree, and of what is put in
+-- that its x lies in the stripe and is new.
 use Prim.Native.Nat.{ℕ}
 use mathlib.Core.Path.{_≡_}
 use Rattle.kinds.specs.declared.Pair.{Pair}
 use Rattle.kinds.specs.Stripe.{Stripe, In}
-use Rattle.trees.specs.Tree.{Tree, fork, All, Mem, Tops, Under, Well, New}
+use Rattle.trees.specs.Tree.{Tree, fork, All, Mem, Tops, Under, Well}
+use Rattle.trees.specs.Standing.{New}
 use Rattle.trees.specs.Changes.{goDown, takeOut}
 use Rattle.kinds.proofs.Order.{beats-asym}
 use Rattle.trees.proofs.Trees.{tops-of}
@@ -64,6 +66,6 @@ module _ {A : Type 0} (key : A → Pair) where
   put-back f p s t w i e = taken-value key (down-taken (down-view key f p s t w i e) w e)
 
   -- law: what was taken out goes down, at the slot given up, to the tree as it was
-  pub taken-back : (p : A) (s : Stripe) (t : Tree A) → Well key s t → Mem p t
+  pub back-down : (p : A) (s : Stripe) (t : Tree A) → Well key s t → Mem p t
       → goDown key (takeOut key (key p .x) s t .slot) p s (takeOut key (key p .x) s t .tree) ≡ t
-  taken-back p s t w m = down-value key _ (taken-down (taken-view key p s t w m) w)
+  back-down p s t w m = down-value key _ (taken-down (taken-view key p s t w m) w)

@@ -1,8 +1,10 @@
--- A tree is well formed exactly where the clauses of a sound pool hold of it (that its x differ is in Members, its levels in Levels).
+-- A tree is well formed exactly where the clauses of a sound pool hold of it (that its x differ is in Members, its levels in Levels). Nothing
+-- else is assumed.
 use Prim.Native.Nat.{ℕ}
 use Rattle.kinds.specs.declared.Pair.{Pair}
 use Rattle.kinds.specs.Stripe.{Stripe, In, leftPart, rightPart}
-use Rattle.trees.specs.Tree.{Tree, none, fork, members, Tops, InStripes, Ordered, xs, Well, New}
+use Rattle.trees.specs.Tree.{Tree, none, fork, members, Tops, InStripes, Ordered, xs, Well}
+use Rattle.trees.specs.Standing.{New}
 use Rattle.plain.specs.Plain.{Differs, Apart}
 use Rattle.trees.proofs.Trees.{all-and, tops-of}
 use Rattle.plain.proofs.Apart.{differs-split, apart-split}

@@ -1,5 +1,5 @@
--- A pair that goes down: the tree stays well formed and has one member more.
--- `Down` is the graph of `goDown`; every law is an induction over it, with no test in it.
+-- A pair that goes down: the tree stays well formed and has one member more. It assumes a well-formed tree, and an x that lies in the stripe and
+-- is new. `Down` is the graph of `goDown`; every law is an induction over it, with no test in it.
 use Prim.Native.Nat.{ℕ, _≤_, _<_}
 use mathlib.Core.Path.{_≡_, refl, sym, ap, subst}
 use mathlib.Core.Logic.{_≢_, _↔_, _⊎_, inl, inr, ⊎-elim}
@@ -10,7 +10,8 @@ use borrow.Author.Tests.{ltb-true, ltb-false, lt-ltb, le-ltb}
 use Rattle.kinds.specs.declared.Pair.{Pair}
 use Rattle.kinds.specs.Pairs.{Beats, beats}
 use Rattle.kinds.specs.Stripe.{Stripe, In, middle, leftPart, rightPart}
-use Rattle.trees.specs.Tree.{Tree, none, fork, All, Mem, Under, Well-fork, Well, New}
+use Rattle.trees.specs.Tree.{Tree, none, fork, All, Mem, Under, Well-fork, Well}
+use Rattle.trees.specs.Standing.{New}
 use Rattle.trees.specs.Changes.{goDown}
 use Rattle.kinds.proofs.Tests.{on}
 use Rattle.kinds.proofs.Order.{beats-true, true-beats, false-beats, beats-false, beats-trans}
@@ -34,7 +35,7 @@ module _ {A : Type 0} (key : A → Pair) where
         → Down f z (rightPart s) r t → Down f p s (fork i q l r) (fork i w l t)
 
   -- what is known of the one that stays, w, and of the one that goes on, z
-  pub record Step (s : Stripe) (w z : A) (l r : Tree A) : Type 0 where
+  pub record StepDown (s : Stripe) (w z : A) (l r : Tree A) : Type 0 where
     pub under : Under (key w) (key z)
     pub over-left : All (λ q. Under (key w) (key q)) l
     pub over-right : All (λ q. Under (key w) (key q)) r
@@ -44,7 +45,7 @@ module _ {A : Type 0} (key : A → Pair) where
     pub new-right : New key (key z .x) r
 
   pub step : {s : Stripe} {p q w z : A} {l r : Tree A} {L R : Type 0} → Sorted p q w z → Well-fork key s q l r L R
-      → In s (key p .x) → key p .x ≢ key q .x → New key (key p .x) l → New key (key p .x) r → Step s w z l r
+      → In s (key p .x) → key p .x ≢ key q .x → New key (key p .x) l → New key (key p .x) r → StepDown s w z l r
   step {q = q} {l = l} {r = r} (swap b) f i e el er = record {
     under = record { beaten = b; apart = e };
     over-left = all-and (λ _ u v. record { beaten = beats-trans b (u .beaten); apart = v }) l (f .over-left) el;

@@ -7,7 +7,8 @@ use lib.Dec.{ltb}
 use borrow.Author.Tests.{eq-eqb, ne-eqb, lt-ltb, le-ltb}
 use Rattle.kinds.specs.declared.Pair.{Pair}
 use Rattle.kinds.specs.Stripe.{Stripe, middle, leftPart, rightPart}
-use Rattle.trees.specs.Tree.{Tree, none, fork, Mem, here, in-left, in-right, Well, New}
+use Rattle.trees.specs.Tree.{Tree, none, fork, Mem, here, in-left, in-right, Well}
+use Rattle.trees.specs.Standing.{New}
 use Rattle.trees.specs.Changes.{met}
 use Rattle.trees.proofs.Trees.{all-map, all-at, all-mem, well-in}
 

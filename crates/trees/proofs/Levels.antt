@@ -1,4 +1,5 @@
--- A stripe at most 2 ^ k wide has at most k + 1 levels of slots: a son's stripe is half as wide, and one x has one slot.
+-- A stripe at most 2 ^ k wide has at most k + 1 levels of slots: a son's stripe is half as wide, and one x has one slot. It assumes a
+-- well-formed tree.
 use Prim.Native.Nat.{ℕ, zero, suc, _+_, _^_, _≤_}
 use native.Mathlib.Omega.{arith}
 use native.Mathlib.Nat.{two-pow-succ}

@@ -5,7 +5,8 @@ use mathlib.Core.List.{List·Memᴰ, List·Memᴰ·head, List·Memᴰ·tail, Lis
 use native.Mathlib.Omega.{arith}
 use Rattle.kinds.specs.declared.Pair.{Pair}
 use Rattle.kinds.specs.Stripe.{Stripe, leftPart, rightPart}
-use Rattle.trees.specs.Tree.{Tree, none, fork, members, Mem, here, in-left, in-right, xs, Well, New}
+use Rattle.trees.specs.Tree.{Tree, none, fork, members, Mem, here, in-left, in-right, xs, Well}
+use Rattle.trees.specs.Standing.{New}
 use Rattle.plain.specs.Plain.{Differs, Apart}
 use Rattle.trees.proofs.Trees.{all-map, all-at, well-in, under-new}
 use Rattle.plain.proofs.Apart.{differs-append, apart-append}

@@ -1,4 +1,5 @@
--- Which slots a tree has: a pair that goes down adds the one given, and no slot then stands twice.
+-- Which slots a tree has: a pair that goes down adds the one given, and no slot then stands twice. That assumes that none stood twice before,
+-- and that the one given did not stand there.
 use Prim.Native.Nat.{ℕ, _+_}
 use mathlib.Core.Path.{_≡_, refl, sym, subst}
 use mathlib.Core.Logic.{_≢_, _⊎_, inl, inr, ⊎-elim}
@@ -7,7 +8,8 @@ use lib.Dec.{eqb}
 use borrow.Author.Tests.{eqb-true, eqb-false}
 use Rattle.kinds.specs.declared.Pair.{Pair}
 use Rattle.kinds.specs.Stripe.{Stripe}
-use Rattle.trees.specs.Tree.{Tree, none, fork, size, Stands, at-top, at-left, at-right, Distinct}
+use Rattle.trees.specs.Tree.{Tree, none, fork, size}
+use Rattle.trees.specs.Standing.{Stands, at-top, at-left, at-right, Distinct}
 use Rattle.kinds.proofs.Tests.{on}
 use Rattle.trees.proofs.GoDown.{Down, put, go-left, go-right}
 

@@ -1,5 +1,5 @@
--- A hole that is filled: the tree stays well formed and has one member less.
--- `Filled` and `Taken` are the graphs of `fill` and `takeOut`; every law is an induction over them.
+-- A hole that is filled: the tree stays well formed and has one member less. It assumes a well-formed tree that has the pair. `Filled` and
+-- `Taken` are the graphs of `fill` and `takeOut`; every law is an induction over them.
 use Prim.Native.Nat.{ℕ, _≤_, _<_}
 use mathlib.Core.Path.{_≡_, refl, sym, ap, subst}
 use mathlib.Core.Logic.{_≢_, _↔_, _⊎_, inl, inr, ⊎-elim}
@@ -8,7 +8,8 @@ use borrow.Author.Tests.{eq-eqb, ne-eqb, lt-ltb, le-ltb}
 use Rattle.kinds.specs.declared.Pair.{Pair}
 use Rattle.kinds.specs.Pairs.{Beats, beats}
 use Rattle.kinds.specs.Stripe.{Stripe, middle, leftPart, rightPart}
-use Rattle.trees.specs.Tree.{Tree, none, fork, All, Mem, here, in-left, in-right, Tops, free, over, Under, Well, New}
+use Rattle.trees.specs.Tree.{Tree, none, fork, All, Mem, here, in-left, in-right, Tops, free, over, Under, Well}
+use Rattle.trees.specs.Standing.{New}
 use Rattle.trees.specs.Changes.{fill, takeOut}
 use Rattle.kinds.proofs.Tests.{on}
 use Rattle.kinds.proofs.Order.{beats-true, true-beats, false-beats, beats-false, beats-trans}
@@ -114,11 +115,11 @@ module _ {A : Type 0} (key : A → Pair) where
   taken-new (out-right {l = l} e b d) w = (e, all-map (λ q i. omega arith) l (well-in key _ l (w .left)), taken-new d (w .right))
 
   -- `fill` and `takeOut` have these graphs
-  abbrev pub Fills : Tree A → Type 0
-  Fills none = Unit {0}
-  Fills (fork i p l r) = Filled (fork i p l r) (fill key (fork i p l r) .tree) (fill key (fork i p l r) .slot)
+  abbrev pub HoleFilled : Tree A → Type 0
+  HoleFilled none = Unit {0}
+  HoleFilled (fork i p l r) = Filled (fork i p l r) (fill key (fork i p l r) .tree) (fill key (fork i p l r) .slot)
 
-  fills-fork : (s : Stripe) (i : ℕ) (p : A) (l r : Tree A) → Well key s (fork i p l r) → Fills l → Fills r → Fills (fork i p l r)
+  fills-fork : (s : Stripe) (i : ℕ) (p : A) (l r : Tree A) → Well key s (fork i p l r) → HoleFilled l → HoleFilled r → HoleFilled (fork i p l r)
   unfolding fill
   fills-fork s i p none none w L R = last
   fills-fork s i p none (fork b v t u) w L R = from-right free R
@@ -130,15 +131,15 @@ module _ {A : Type 0} (key : A → Pair) where
       on (beats (key q) (key v)) (λ e. rw e (from-left (over (beats-true (key q) (key v) e)) L))
       (λ e. rw e (from-right (over (beats-false (key q) (key v) d e)) R))
 
-  pub fills : (s : Stripe) (t : Tree A) → Well key s t → Fills t
-  fills s none w = tt
-  fills s (fork i p l r) w = fills-fork s i p l r w (fills (leftPart s) l (w .left)) (fills (rightPart s) r (w .right))
+  pub hole-filled : (s : Stripe) (t : Tree A) → Well key s t → HoleFilled t
+  hole-filled s none w = tt
+  hole-filled s (fork i p l r) w = fills-fork s i p l r w (hole-filled (leftPart s) l (w .left)) (hole-filled (rightPart s) r (w .right))
 
   pub taken-view : (p : A) (s : Stripe) (t : Tree A) → Well key s t → Mem p t
       → Taken p s t (takeOut key (key p .x) s t .tree) (takeOut key (key p .x) s t .slot)
   unfolding takeOut
   taken-view p s none w m = elim m [ ]
-  taken-view p s (fork i q l r) w (here e) = rw (← e, eq-eqb (key p .x) (key p .x) refl) (hit (fills s (fork i p l r) (rw e w)))
+  taken-view p s (fork i q l r) w (here e) = rw (← e, eq-eqb (key p .x) (key p .x) refl) (hit (hole-filled s (fork i p l r) (rw e w)))
   taken-view p s (fork i q l r) w (in-left m) =
       let j = all-at _ (well-in key (leftPart s) l (w .left)) m in
       let a = all-at _ (w .over-left) m .apart in

@@ -3,7 +3,8 @@ use mathlib.Core.Path.{refl, sym, subst}
 use native.Mathlib.Omega.{arith}
 use Rattle.kinds.specs.declared.Pair.{Pair}
 use Rattle.kinds.specs.Stripe.{Stripe, In, leftPart, rightPart}
-use Rattle.trees.specs.Tree.{Tree, none, fork, All, Mem, here, in-left, in-right, Tops, free, over, Under, Well, New}
+use Rattle.trees.specs.Tree.{Tree, none, fork, All, Mem, here, in-left, in-right, Tops, free, over, Under, Well}
+use Rattle.trees.specs.Standing.{New}
 
 module _ {A : Type 0} where
   pub all-map : {P Q : A → Type 0} → ((q : A) → P q → Q q) → (t : Tree A) → All P t → All Q t

@@ -6,7 +6,8 @@ use mathlib.Core.Bool.{Bool, true, false}
 use mathlib.Core.List.{List}
 use native.Mathlib.Omega.{arith}
 use Rattle.kinds.specs.declared.Pair.{Pair}
-use Rattle.pools.specs.Cells.{Fits, pairAt}
+use Rattle.pools.specs.Cells.{pairAt}
+use Rattle.pools.specs.Links.{Fits}
 use Rattle.questions.specs.Walking.{Some}
 use Rattle.questions.proofs.Finding.{found-none, found-some}
 use Rattle.visit.specs.Nearer.{Nearer}

@@ -3,7 +3,7 @@ use slim::Slim;
 ghost use mathlib.Core.Path.{_≡_};
 ghost use mathlib.Core.Bool.{cond};
 ghost use Prim.Native.Nat.{_≤_};
-ghost use Rattle.pools.specs.Cells.{Fits};
+ghost use Rattle.pools.specs.Links.{Fits};
 ghost use Rattle.plain.specs.Plain.{smaller, larger};
 ghost use Rattle.questions.specs.Walking.{Some};
 ghost use Rattle.slim.specs.Slim.{MiddleFits, stripeBy};

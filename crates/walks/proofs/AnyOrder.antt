@@ -1,4 +1,4 @@
--- What the walks answer is what a list in any order gives, where its members are the tree's.
+-- What the walks answer is what a list in any order gives, where its members are the tree's. It assumes a well-formed tree.
 use Prim.Native.Nat.{ℕ}
 use mathlib.Core.Path.{_≡_, _∙_}
 use mathlib.Core.Logic.{_↔_}

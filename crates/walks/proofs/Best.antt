@@ -1,4 +1,5 @@
--- Over a tree, a scan's finding is the closest of each slot's pair and its sons' best.
+-- Over a tree, a scan's finding is the closest of each slot's pair and its sons' best. It assumes that the closer of two pairs ranks them, and
+-- nothing of the tree.
 use mathlib.Core.Path.{_≡_, refl, sym, ap, _∙_}
 use mathlib.Core.Bool.{Bool, false}
 use Rattle.kinds.specs.declared.Pair.{Pair}

@@ -1,5 +1,5 @@
--- Each walk finds what a scan of the tree's members finds.
--- The slot's rule gives the closest of its pair and its sons' best, whatever the sons answer; each walk's induction only plugs in.
+-- Each walk finds what a scan of the tree's members finds. The slot's rule gives the closest of its pair and its sons' best, whatever the sons
+-- answer; each walk's induction only plugs in. It assumes a well-formed tree.
 use Prim.Native.Nat.{ℕ, _<_}
 use mathlib.Core.Path.{_≡_, refl, sym, ap, _∙_}
 use mathlib.Core.Bool.{Bool, true, false, not, _&&_, _||_}
@@ -15,7 +15,7 @@ use Rattle.kinds.specs.Pairs.{beats}
 use Rattle.plain.specs.Plain.{inRange, matches, own, closest, smaller, larger, smallestXOf, largestXOf, smallestYOf}
 use Rattle.kinds.specs.Stripe.{Stripe, In, middle, leftPart, rightPart}
 use Rattle.trees.specs.Tree.{Tree, none, fork, members, All, Under, Well, itself}
-use Rattle.walks.specs.Walks.{ask, orElse, byX, smallestX, largestX, smallestY}
+use Rattle.walks.specs.Walks.{ask, orElse, xRule, smallestX, largestX, smallestY}
 use Rattle.kinds.proofs.Tests.{on}
 use Rattle.kinds.proofs.Order.{false-beats}
 use Rattle.trees.proofs.Trees.{all-map, well-in}
@@ -50,7 +50,7 @@ module _ (q : Limits) {closer : Pair → Pair → Bool} (R : Ranks closer) where
   byX-is : (p : Pair) (a b : Walked) (t u : Tree Pair) → ltb (q .y1) (p .y) ≡ false
       → a .finding ≡ best (matches q) closer t → b .finding ≡ best (matches q) closer u
       → Ahead (best (matches q) closer t) (best (matches q) closer u) → All (λ v. Under p v) t → All (λ v. Under p v) u
-      → byX closer q p a b .finding ≡ closest closer (own (matches q) p) (closest closer (best (matches q) closer t) (best (matches q) closer u))
+      → xRule closer q p a b .finding ≡ closest closer (own (matches q) p) (closest closer (best (matches q) closer t) (best (matches q) closer u))
   byX-is p a b t u e ea eb h v w =
       let f = best (matches q) closer t in
       let g = best (matches q) closer u in

@@ -5,6 +5,6 @@ pub mod Finds
 pub mod Lists
 pub mod AnyOrder
 pub mod Sizes
-pub mod Meets
+pub mod Ranges
 pub mod Visits
 pub mod ListVisits

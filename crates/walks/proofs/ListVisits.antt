@@ -1,5 +1,5 @@
--- At the root a listing makes at most 127 visits, and two more for each pair listed.
--- A slot whose x is in range either stops the walk or matches, and a match pays for both sons.
+-- At the root a listing makes at most 127 visits, and two more for each pair listed. A slot whose x is in range either stops the walk or
+-- matches, and a match pays for both sons. It assumes a well-formed tree.
 use Prim.Native.Nat.{ℕ, zero, suc, _+_, _*_, _≤_}
 use mathlib.Core.Path.{_≡_, refl}
 use mathlib.Core.Bool.{Bool, true, false, cond}
@@ -15,7 +15,7 @@ use Rattle.trees.specs.Tree.{Tree, fork, Well, itself}
 use Rattle.walks.specs.Walks.{Listed, listed, andThen, listOwn, listing}
 use Rattle.kinds.proofs.Tests.{on, clash}
 use Rattle.walks.proofs.Outside.{is-match}
-use Rattle.walks.proofs.Meets.{Meets, empty, inside, both, left-only, right-only, meets-root, most, whole-le, most-both, most-one}
+use Rattle.walks.proofs.Ranges.{LiesOver, empty, inside, both, left-only, right-only, lies-over-root, mostVisits, whole-le, most-both, most-one}
 
 -- so many visits at most are not paid for by the pairs listed
 record Paid (f : ℕ) (a : Listed) : Type 0 where
@@ -63,8 +63,8 @@ module _ (q : Limits) where
       (λ e. rw (e, is-match q p a b e) (paid-match room p _ (paid-more h (paid-then _ _
       (paid-ask (ltb (q .x0) (middle s)) _ (λ c. ha _)) (paid-ask (leb (middle s) (q .x1)) _ (λ c. hb _))))))
 
-  listing-paid : {low high : Bool} {n : ℕ} {s : Stripe} {t : Tree Pair} → Meets (q .x0) (q .x1) low high n s t → (room : ℕ)
-      → Paid (most low high n) (listing q s t room)
+  listing-paid : {low high : Bool} {n : ℕ} {s : Stripe} {t : Tree Pair} → LiesOver (q .x0) (q .x1) low high n s t → (room : ℕ)
+      → Paid (mostVisits low high n) (listing q s t room)
   unfolding listing
   listing-paid empty room = record { paid = omega arith }
   listing-paid (inside {n = n} {i = i} {s = s} {p = p} {l = l} {r = r} a b u v) room =
@@ -80,4 +80,4 @@ module _ (q : Limits) where
 -- law: a listing into any room
 pub listing-visits : (q : Limits) (t : Tree Pair) → Well itself rootStripe t → (room : ℕ)
     → listing q rootStripe t room .visits ≤ 127 + 2 * length (listing q rootStripe t room .pairs)
-listing-visits q t w room = listing-paid q (meets-root (q .x0) (q .x1) t w) room .paid
+listing-visits q t w room = listing-paid q (lies-over-root (q .x0) (q .x1) t w) room .paid

@@ -1,4 +1,4 @@
--- A listing lists the matches in the members' order, as far as there is room, and says whether there are more.
+-- A listing lists the matches in the members' order, as far as there is room, and says whether there are more. It assumes a well-formed tree.
 use Prim.Native.Nat.{ℕ, zero, suc, _+_, _-_, _≤_, _<_}
 use mathlib.Core.Path.{_≡_, refl, sym, ap, _∙_}
 use mathlib.Core.Bool.{Bool, true, false, cond}

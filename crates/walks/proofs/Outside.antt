@@ -1,4 +1,5 @@
--- What a walk leaves out holds no match: the side of the middle that is beyond the range, and all below a pair with y > y1.
+-- What a walk leaves out holds no match: the side of the middle that is beyond the range, and all below a pair with y > y1. It assumes a
+-- well-formed tree.
 use Prim.Native.Nat.{ℕ, _≤_, _<_}
 use mathlib.Core.Path.{_≡_}
 use mathlib.Core.Bool.{true, false}

@@ -1,4 +1,4 @@
--- Smallest y and a listing make no more visits than the tree has slots.
+-- Smallest y and a listing make no more visits than the tree has slots. Nothing is assumed of the tree.
 use Prim.Native.Nat.{ℕ, zero, suc, _+_, _≤_}
 use mathlib.Core.Path.{_≡_, refl}
 use mathlib.Core.Bool.{Bool, true, false, cond}

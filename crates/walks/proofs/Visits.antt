@@ -1,4 +1,4 @@
--- At the root no search makes more than 127 visits. Shown once for all 32 levels.
+-- At the root no search makes more than 127 visits. Shown once for all 32 levels. It assumes a well-formed tree.
 use Prim.Native.Nat.{ℕ, zero, suc, _+_, _≤_}
 use mathlib.Core.Path.{_≡_, refl}
 use mathlib.Core.Bool.{Bool, true, false}
@@ -12,11 +12,11 @@ use Rattle.kinds.specs.declared.Walked.{Walked}
 use Rattle.plain.specs.Plain.{inRange, matches, own, closest, smaller, larger}
 use Rattle.kinds.specs.Stripe.{Stripe, rootStripe, middle, leftPart, rightPart}
 use Rattle.trees.specs.Tree.{Tree, fork, Well, itself}
-use Rattle.walks.specs.Walks.{ask, orElse, byX, smallestX, largestX, smallestY}
+use Rattle.walks.specs.Walks.{ask, orElse, xRule, smallestX, largestX, smallestY}
 use Rattle.kinds.proofs.Tests.{on, clash}
 use Rattle.walks.proofs.Outside.{in-range, is-match}
 use Rattle.walks.proofs.Sizes.{Upto, upto-ask}
-use Rattle.walks.proofs.Meets.{Meets, empty, inside, both, left-only, right-only, meets-root, whole, one-end, no-end, most, no-end-le, most-both, most-one}
+use Rattle.walks.proofs.Ranges.{LiesOver, empty, inside, both, left-only, right-only, lies-over-root, whole, one-end, no-end, mostVisits, no-end-le, most-both, most-one}
 
 -- the smallest y
 upto-none : {c : Bool} (w : Walked) → c ≡ false → c ≡ true → Upto 0 w
@@ -31,7 +31,7 @@ module _ (x0 x1 : ℕ) where
       let b = upto-ask (leb (middle s) x1) (smallestY x0 x1 (rightPart s) r) hb in
       on (inRange x0 x1 p) (λ e. rw e (record { visits = omega arith })) (λ e. rw e (record { visits = omega arith }))
 
-  y-upto : {low high : Bool} {n : ℕ} {s : Stripe} {t : Tree Pair} → Meets x0 x1 low high n s t → Upto (most low high n) (smallestY x0 x1 s t)
+  y-upto : {low high : Bool} {n : ℕ} {s : Stripe} {t : Tree Pair} → LiesOver x0 x1 low high n s t → Upto (mostVisits low high n) (smallestY x0 x1 s t)
   unfolding smallestY
   y-upto empty = record { visits = omega arith }
   y-upto (inside {p = p} a b u v) = rw (in-range x0 x1 p a b) (record { visits = omega arith })
@@ -81,12 +81,12 @@ module _ (closer : Pair → Pair → Bool) where
       all = omega (arith, ca .all);
     }
 
-    cost-slot : {fa ka fb kb : ℕ} → Cost fa ka a → Cost fb kb b → (f k : ℕ) → ka + 1 ≤ k → fa + kb + 1 ≤ k → fa + fb + 1 ≤ f → Cost f k (byX closer q p a b)
+    cost-slot : {fa ka fb kb : ℕ} → Cost fa ka a → Cost fb kb b → (f k : ℕ) → ka + 1 ≤ k → fa + kb + 1 ≤ k → fa + fb + 1 ≤ f → Cost f k (xRule closer q p a b)
     cost-slot ca cb f k h i j = on (ltb (q .y1) (p .y)) (λ t. rw t (record { miss = λ _. omega arith; all = omega arith }))
         (λ t. rw t (cost-sons ca cb (a .finding) refl f k h i j))
 
     -- a slot whose x is in range finds something, or is the only one visited
-    miss-one : q .x0 ≤ p .x → p .x ≤ q .x1 → byX closer q p a b .finding ≡ Nothing → byX closer q p a b .visits ≤ 1
+    miss-one : q .x0 ≤ p .x → p .x ≤ q .x1 → xRule closer q p a b .finding ≡ Nothing → xRule closer q p a b .visits ≤ 1
     miss-one h k = on (ltb (q .y1) (p .y)) (λ e. rw e (λ _. omega arith))
         (λ e. rw (e, is-match q p h k e) (λ d. let z = miss-second (orElse (a .finding) b .finding) p d in omega arith))
 
@@ -107,15 +107,15 @@ full-one : (near : Bool) (n : ℕ) → full near n + 1 ≤ full near (suc n)
 full-one true n = omega arith
 full-one false n = omega (arith, no-end-le n)
 
-full-low : (low : Bool) (n : ℕ) → most low true n + one-end n + 1 ≤ full low (suc n)
+full-low : (low : Bool) (n : ℕ) → mostVisits low true n + one-end n + 1 ≤ full low (suc n)
 full-low true n = omega arith
 full-low false n = omega arith
 
-full-high : (high : Bool) (n : ℕ) → most true high n + one-end n + 1 ≤ full high (suc n)
+full-high : (high : Bool) (n : ℕ) → mostVisits true high n + one-end n + 1 ≤ full high (suc n)
 full-high true n = omega arith
 full-high false n = omega arith
 
-most-full : (low high : Bool) (n : ℕ) → (most low high n ≤ full low n) × (most low high n ≤ full high n)
+most-full : (low high : Bool) (n : ℕ) → (mostVisits low high n ≤ full low n) × (mostVisits low high n ≤ full high n)
 most-full true true n = let a = whole-end n in (a, a)
 most-full true false n = (omega arith, end-none n)
 most-full false true n = (end-none n, omega arith)
@@ -128,8 +128,8 @@ module _ (q : Limits) where
   unfolding smallestX
   smallestX-slot s i p l r ha hb = cost-slot smaller q p _ _ (cost-ask (ltb (q .x0) (middle s)) _ ha) (cost-ask (leb (middle s) (q .x1)) _ hb)
 
-  smallestX-cost : {low high : Bool} {n : ℕ} {s : Stripe} {t : Tree Pair} → Meets (q .x0) (q .x1) low high n s t
-      → Cost (most low high n) (full low n) (smallestX q s t)
+  smallestX-cost : {low high : Bool} {n : ℕ} {s : Stripe} {t : Tree Pair} → LiesOver (q .x0) (q .x1) low high n s t
+      → Cost (mostVisits low high n) (full low n) (smallestX q s t)
   unfolding smallestX
   smallestX-cost empty = record { miss = λ _. omega arith; all = omega arith }
   smallestX-cost (inside {n = n} {i = i} {s = s} {p = p} {l = l} {r = r} a b u v) = record {
@@ -138,15 +138,15 @@ module _ (q : Limits) where
         (omega arith) (omega arith) (omega arith) .all;
   }
   smallestX-cost (both {low = low} {high = high} {n = n} {i = i} {s = s} {p = p} {l = l} {r = r} c u v) =
-      smallestX-slot s i p l r (λ _. smallestX-cost u) (λ _. smallestX-cost v) (most low high (suc n)) (full low (suc n)) (full-one low n) (full-low low n) (most-both low high n c)
+      smallestX-slot s i p l r (λ _. smallestX-cost u) (λ _. smallestX-cost v) (mostVisits low high (suc n)) (full low (suc n)) (full-one low n) (full-low low n) (most-both low high n c)
   smallestX-cost (left-only {low = low} {high = high} {n = n} {i = i} {s = s} {p = p} {l = l} {r = r} c e u) =
       let m = most-full low high n in
       let h = full-one low n in
-      smallestX-slot s i p l r (λ _. smallestX-cost u) (cost-none _ e) (most low high (suc n)) (full low (suc n)) h (omega arith) (omega (arith, most-one low high n c))
+      smallestX-slot s i p l r (λ _. smallestX-cost u) (cost-none _ e) (mostVisits low high (suc n)) (full low (suc n)) h (omega arith) (omega (arith, most-one low high n c))
   smallestX-cost (right-only {low = low} {high = high} {n = n} {i = i} {s = s} {p = p} {l = l} {r = r} c e v) =
       let h = full-one low n in
       let m = most-one low high n c in
-      smallestX-slot s i p l r (cost-none _ e) (λ _. smallestX-cost v) (most low high (suc n)) (full low (suc n)) (omega arith) (omega arith) (omega arith)
+      smallestX-slot s i p l r (cost-none _ e) (λ _. smallestX-cost v) (mostVisits low high (suc n)) (full low (suc n)) (omega arith) (omega arith) (omega arith)
 
   largestX-slot : (s : Stripe) (i : ℕ) (p : Pair) (l r : Tree Pair) {fa ka fb kb : ℕ}
       → (leb (middle s) (q .x1) ≡ true → Cost fa ka (largestX q (rightPart s) r)) → (ltb (q .x0) (middle s) ≡ true → Cost fb kb (largestX q (leftPart s) l))
@@ -154,8 +154,8 @@ module _ (q : Limits) where
   unfolding largestX
   largestX-slot s i p l r ha hb = cost-slot larger q p _ _ (cost-ask (leb (middle s) (q .x1)) _ ha) (cost-ask (ltb (q .x0) (middle s)) _ hb)
 
-  largestX-cost : {low high : Bool} {n : ℕ} {s : Stripe} {t : Tree Pair} → Meets (q .x0) (q .x1) low high n s t
-      → Cost (most low high n) (full high n) (largestX q s t)
+  largestX-cost : {low high : Bool} {n : ℕ} {s : Stripe} {t : Tree Pair} → LiesOver (q .x0) (q .x1) low high n s t
+      → Cost (mostVisits low high n) (full high n) (largestX q s t)
   unfolding largestX
   largestX-cost empty = record { miss = λ _. omega arith; all = omega arith }
   largestX-cost (inside {n = n} {i = i} {s = s} {p = p} {l = l} {r = r} a b u v) = record {
@@ -165,24 +165,24 @@ module _ (q : Limits) where
   }
   largestX-cost (both {low = low} {high = high} {n = n} {i = i} {s = s} {p = p} {l = l} {r = r} c u v) =
       let m = most-both low high n c in
-      largestX-slot s i p l r (λ _. largestX-cost v) (λ _. largestX-cost u) (most low high (suc n)) (full high (suc n)) (full-one high n) (full-high high n) (omega arith)
+      largestX-slot s i p l r (λ _. largestX-cost v) (λ _. largestX-cost u) (mostVisits low high (suc n)) (full high (suc n)) (full-one high n) (full-high high n) (omega arith)
   largestX-cost (left-only {low = low} {high = high} {n = n} {i = i} {s = s} {p = p} {l = l} {r = r} c e u) =
       let h = full-one high n in
       let m = most-one low high n c in
-      largestX-slot s i p l r (cost-none _ e) (λ _. largestX-cost u) (most low high (suc n)) (full high (suc n)) (omega arith) (omega arith) (omega arith)
+      largestX-slot s i p l r (cost-none _ e) (λ _. largestX-cost u) (mostVisits low high (suc n)) (full high (suc n)) (omega arith) (omega arith) (omega arith)
   largestX-cost (right-only {low = low} {high = high} {n = n} {i = i} {s = s} {p = p} {l = l} {r = r} c e v) =
       let m = most-full low high n in
       let h = full-one high n in
-      largestX-slot s i p l r (λ _. largestX-cost v) (cost-none _ e) (most low high (suc n)) (full high (suc n)) h (omega arith) (omega (arith, most-one low high n c))
+      largestX-slot s i p l r (λ _. largestX-cost v) (cost-none _ e) (mostVisits low high (suc n)) (full high (suc n)) h (omega arith) (omega (arith, most-one low high n c))
 
 -- law: the smallest y
 pub smallestY-visits : (x0 x1 : ℕ) (t : Tree Pair) → Well itself rootStripe t → smallestY x0 x1 rootStripe t .visits ≤ 127
-smallestY-visits x0 x1 t w = y-upto x0 x1 (meets-root x0 x1 t w) .visits
+smallestY-visits x0 x1 t w = y-upto x0 x1 (lies-over-root x0 x1 t w) .visits
 
 -- law: the smallest x
 pub smallestX-visits : (q : Limits) (t : Tree Pair) → Well itself rootStripe t → smallestX q rootStripe t .visits ≤ 127
-smallestX-visits q t w = smallestX-cost q (meets-root (q .x0) (q .x1) t w) .all
+smallestX-visits q t w = smallestX-cost q (lies-over-root (q .x0) (q .x1) t w) .all
 
 -- law: the largest x
 pub largestX-visits : (q : Limits) (t : Tree Pair) → Well itself rootStripe t → largestX q rootStripe t .visits ≤ 127
-largestX-visits q t w = largestX-cost q (meets-root (q .x0) (q .x1) t w) .all
+largestX-visits q t w = largestX-cost q (lies-over-root (q .x0) (q .x1) t w) .all

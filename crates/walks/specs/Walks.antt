@@ -29,8 +29,8 @@ orElse (Found p) w = seen (Found p) 0
 
 -- the rule of both x walks at a slot: nothing if its y > y1; else the first son, the second if the first gave nothing, then its own pair if that is
 -- in range and closer than what was found
-abbrev pub byX : (Pair → Pair → Bool) → Limits → Pair → Walked → Walked → Walked
-byX closer q p first second =
+abbrev pub xRule : (Pair → Pair → Bool) → Limits → Pair → Walked → Walked → Walked
+xRule closer q p first second =
     let sons = orElse (first .finding) second in
     cond (ltb (q .y1) (p .y)) (seen Nothing 1) (seen (closest closer (sons .finding) (own (matches q) p)) (first .visits + sons .visits + 1))
 
@@ -38,13 +38,13 @@ byX closer q p first second =
 unfoldable pub smallestX : Limits → Stripe → Tree Pair → Walked
 smallestX q s none = seen Nothing 0
 smallestX q s (fork i p l r) =
-    byX smaller q p (ask (ltb (q .x0) (middle s)) (smallestX q (leftPart s) l)) (ask (leb (middle s) (q .x1)) (smallestX q (rightPart s) r))
+    xRule smaller q p (ask (ltb (q .x0) (middle s)) (smallestX q (leftPart s) l)) (ask (leb (middle s) (q .x1)) (smallestX q (rightPart s) r))
 
 -- largest x, the mirror: right if m ≤ x1, then left if x0 < m
 unfoldable pub largestX : Limits → Stripe → Tree Pair → Walked
 largestX q s none = seen Nothing 0
 largestX q s (fork i p l r) =
-    byX larger q p (ask (leb (middle s) (q .x1)) (largestX q (rightPart s) r)) (ask (ltb (q .x0) (middle s)) (largestX q (leftPart s) l))
+    xRule larger q p (ask (leb (middle s) (q .x1)) (largestX q (rightPart s) r)) (ask (ltb (q .x0) (middle s)) (largestX q (leftPart s) l))
 
 -- smallest y: the slot's own pair if its x is in range; otherwise the better of its sons' answers, left on equal y
 unfoldable pub smallestY : ℕ → ℕ → Stripe → Tree Pair → Walked

@@ -6,18 +6,19 @@ use native.Mathlib.Omega.{arith}
 use lib.ListN.{set, length-set}
 use lib.Seq.{getD-set-same, getD-set-other}
 use Rattle.kinds.specs.declared.Pair.{Pair}
-use Rattle.trees.specs.Tree.{Tree, Stands}
+use Rattle.trees.specs.Tree.{Tree}
+use Rattle.trees.specs.Standing.{Stands}
 use Rattle.pools.specs.Cells.{freeOf}
 use Rattle.pools.specs.Sound.{Sound}
 use Rattle.kinds.proofs.Order.{pair-ext}
 use Rattle.pools.proofs.Agreement.{agree-then, header-fits, leads-frame, leads-slot}
-use Rattle.pools.proofs.Changed.{Changed}
+use Rattle.pools.proofs.Changed.{Relaid}
 use Rattle.way.specs.Way.{Replaced}
 use Rattle.way.proofs.Links.{agree-cells, cell-agree}
 
-pub counted : {c d : List ℕ} {t wide : Tree Pair} {free : ℕ} → Sound c → Replaced c 1 t wide d → (Stands 0 wide → ⊥) → freeOf d ≡ free → (n : ℕ)
-    → Changed c (set d 3 n) t wide free n
-counted {d = d} {t = t} s h out e n =
+pub count-written : {c d : List ℕ} {t wide : Tree Pair} {free : ℕ} → Sound c → Replaced c 1 t wide d → (Stands 0 wide → ⊥) → freeOf d ≡ free → (n : ℕ)
+    → Relaid c (set d 3 n) t wide free n
+count-written {d = d} {t = t} s h out e n =
     let f = header-fits (s .pool) in
     let l = h .long in
     record {

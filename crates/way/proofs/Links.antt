@@ -7,7 +7,8 @@ use mathlib.Core.List.{List}
 use native.Mathlib.Omega.{arith}
 use lib.ListN.{length, getD, set}
 use lib.Seq.{getD-set-other}
-use Rattle.pools.specs.Cells.{perSlot, Fits, sonAt, linkCell}
+use Rattle.pools.specs.Cells.{perSlot}
+use Rattle.pools.specs.Links.{Fits, sonAt, linkCell}
 use Rattle.kinds.proofs.Order.{pair-ext}
 use Rattle.pools.proofs.Agreement.{Agree, agree-cell}
 

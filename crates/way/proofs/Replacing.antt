@@ -8,19 +8,21 @@ use mathlib.Core.List.{List}
 use native.Mathlib.Omega.{arith}
 use lib.ListN.{length, getD}
 use Rattle.kinds.specs.declared.Pair.{Pair}
-use Rattle.trees.specs.Tree.{Tree, Stands, Distinct-fork, Distinct}
-use Rattle.pools.specs.Cells.{perSlot, Fits, pairAt, sonAt, linkCell, putPair}
+use Rattle.trees.specs.Tree.{Tree}
+use Rattle.trees.specs.Standing.{Stands, Distinct-fork, Distinct}
+use Rattle.pools.specs.Cells.{perSlot, pairAt, putPair}
+use Rattle.pools.specs.Links.{Fits, sonAt, linkCell}
 use Rattle.pools.specs.Sound.{Leads}
 use Rattle.kinds.proofs.Order.{pair-ext}
 use Rattle.pools.proofs.Leads.{tree-within, leads-tree}
-use Rattle.pools.proofs.Agreement.{Agree, agree-same, same-slot, slot-fits, leads-frame, leads-slot, leads-top, Wrote, pair-wrote, pair-read, pair-left, pair-right}
+use Rattle.pools.proofs.Agreement.{Agree, agree-same, same-slot, slot-fits, leads-frame, leads-slot, leads-top, WroteSlot, pair-wrote, pair-read, pair-left, pair-right}
 use Rattle.way.specs.Way.{treeThere, Place, Replaced}
 use Rattle.way.proofs.Links.{link-slot, link-low, link-inside, link-other, agree-cells, agree-get}
 use Rattle.way.proofs.Sides.{forkOn, sonTree, tree-on, Outside, outside, distinct-on, Reads-on, reads-on, on-reads}
 
 -- c′ is c, with the pair q in slot s
 pub record Paired (c : List ℕ) (s : ℕ) (q : Pair) (c′ : List ℕ) : Type 0 where
-  pub wrote : Wrote c c′ s
+  pub wrote : WroteSlot c c′ s
   pub pair : pairAt c′ s ≡ q
   pub link : (left : Bool) → getD c′ (linkCell s left) 0 ≡ getD c (linkCell s left) 0
 

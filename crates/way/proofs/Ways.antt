@@ -11,10 +11,12 @@ use lib.ListN.{getD}
 use borrow.Author.Tests.{eqb-true, eqb-false}
 use Rattle.kinds.specs.declared.Pair.{Pair}
 use Rattle.plain.specs.Plain.{hasX}
-use Rattle.kinds.specs.Stripe.{rootStripe, stripeAt, lowLevels}
+use Rattle.kinds.specs.Stripe.{rootStripe, lowLevels}
+use Rattle.kinds.specs.Heights.{stripeAt}
 use Rattle.trees.specs.Tree.{Tree, Mem, here, Well, itself}
 use Rattle.trees.specs.Changes.{met}
-use Rattle.pools.specs.Cells.{Fits, pairAt, linkCell, stored}
+use Rattle.pools.specs.Cells.{pairAt, stored}
+use Rattle.pools.specs.Links.{Fits, linkCell}
 use Rattle.pools.specs.Sound.{Sound}
 use Rattle.kinds.proofs.Tests.{on as on-test}
 use Rattle.kinds.proofs.Heights.{root-at}
@@ -124,8 +126,8 @@ module _ {c : List ℕ} (s : Sound c) where
 
     -- a slot on the way
     module _ {k cell : ℕ} (w : OnTheWay c x k cell) (ne : getD c cell 0 ≢ 0) where
-      pub slot-fits : Fits c (getD c cell 0)
-      slot-fits = leads-fits c (place-there w .leads) ne
+      pub slot-on-way : Fits c (getD c cell 0)
+      slot-on-way = leads-fits c (place-there w .leads) ne
 
       -- law: the tree holds its pair
       pub mem-there : Mem (pairAt c (getD c cell 0)) (s .tree)

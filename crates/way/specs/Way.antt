@@ -7,9 +7,12 @@ use mathlib.Core.List.{List}
 use lib.Dec.{ltb}
 use lib.ListN.{length, getD}
 use Rattle.kinds.specs.declared.Pair.{Pair}
-use Rattle.kinds.specs.Stripe.{In, rootStripe, middle, stripeAt, lowLevels}
-use Rattle.trees.specs.Tree.{Tree, Stands, Distinct}
-use Rattle.pools.specs.Cells.{perSlot, pairAt, linkCell, treeAt}
+use Rattle.kinds.specs.Stripe.{In, rootStripe, middle, lowLevels}
+use Rattle.kinds.specs.Heights.{stripeAt}
+use Rattle.trees.specs.Tree.{Tree}
+use Rattle.trees.specs.Standing.{Stands, Distinct}
+use Rattle.pools.specs.Cells.{perSlot, pairAt, treeAt}
+use Rattle.pools.specs.Links.{linkCell}
 use Rattle.pools.specs.Laid.{top}
 use Rattle.pools.specs.Sound.{Leads}
 

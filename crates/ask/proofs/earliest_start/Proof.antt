@@ -1,9 +1,9 @@
--- The code of the slots refuses; else the walk answers, within the x of the limits of last.
+-- The code of the slots refuses; else the walk answers, within the x of the limits of last. It assumes a sound pool.
 use mathlib.Core.Path.{sym, _∙_}
 use Rattle.plain.specs.Strips.{plainEarliest}
-use Rattle.strip.proofs.Fitting.{slots-fit}
+use Rattle.strip.proofs.Fitting.{slots-small}
 use Rattle.promises.specs.Promises.{earliestStart}
-use Rattle.promises.proofs.Ways.{slots-refused, slots-right}
+use Rattle.promises.proofs.Ways.{slots-refused, slots-pass}
 use Rattle.promises.proofs.Asked.{smallestY-gives}
 use borrow.Author.Needs.{needs}
 use Rattle.ask.proofs.earliest_start.Statement.{statement}
@@ -21,7 +21,7 @@ last-requires : tie.Need-last-requires
 last-requires c κs =
     let at-slots-code = c .before in
     let at-entry = at-slots-code .before .before in
-    slots-fit (at-entry .args .u) (at-entry .args .v) (sym (at-slots-code .slots-code .ensures) ∙ c .if1 .left)
+    slots-small (at-entry .args .u) (at-entry .args .v) (sym (at-slots-code .slots-code .ensures) ∙ c .if1 .left)
 
 returns-2 : tie.Need-returns-2
 unfolding earliestStart plainEarliest
@@ -31,7 +31,7 @@ returns-2 c =
     let at-if1 = at-last .before in
     let at-slots-code = at-if1 .before in
     let at-entry = at-slots-code .before .before in
-    slots-right (at-entry .args .u) (at-entry .args .v) (at-slots-code .slots-code .ensures) (at-if1 .if1 .left)
+    slots-pass (at-entry .args .u) (at-entry .args .v) (at-slots-code .slots-code .ensures) (at-if1 .if1 .left)
     (rw (at-last .last .ensures) at (smallestY-gives (at-entry .pre) _ _ (at-smallest-y .smallest-y .ensures) (c .walked .ensures)))
 
 pub earliest-start-spec : {M : Type 1} → statement M

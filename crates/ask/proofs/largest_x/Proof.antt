@@ -1,5 +1,5 @@
--- Backwards limits are refused; else the walk answers.
-use Rattle.promises.proofs.Ways.{limits-backwards, limits-right}
+-- Backwards limits are refused; else the walk answers. It assumes a sound pool.
+use Rattle.promises.proofs.Ways.{limits-backwards, limits-pass}
 use Rattle.plain.specs.Books.{plainLargestX}
 use Rattle.promises.specs.Promises.{largestXAsked}
 use Rattle.promises.proofs.Asked.{largestX-gives}
@@ -20,7 +20,7 @@ returns-2 c =
     let at-largest-x = c .before in
     let at-if1 = at-largest-x .before in
     let at-entry = at-if1 .before .before in
-    limits-right (at-entry .args .x0) (at-entry .args .x1) (at-if1 .if1 .left) (largestX-gives (at-entry .pre) _ (at-largest-x .largest-x .ensures) (c .walked .ensures))
+    limits-pass (at-entry .args .x0) (at-entry .args .x1) (at-if1 .if1 .left) (largestX-gives (at-entry .pre) _ (at-largest-x .largest-x .ensures) (c .walked .ensures))
 
 pub largest-x-spec : {M : Type 1} → statement M
 largest-x-spec =

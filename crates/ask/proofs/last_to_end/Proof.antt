@@ -1,9 +1,9 @@
--- The code of the slots refuses; else the walk answers, with the limits of last.
+-- The code of the slots refuses; else the walk answers, with the limits of last. It assumes a sound pool.
 use mathlib.Core.Path.{sym, _∙_}
 use Rattle.plain.specs.Strips.{plainLast}
-use Rattle.strip.proofs.Fitting.{slots-fit}
+use Rattle.strip.proofs.Fitting.{slots-small}
 use Rattle.promises.specs.Promises.{lastToEnd}
-use Rattle.promises.proofs.Ways.{slots-refused, slots-right}
+use Rattle.promises.proofs.Ways.{slots-refused, slots-pass}
 use Rattle.promises.proofs.Asked.{largestX-gives}
 use borrow.Author.Needs.{needs}
 use Rattle.ask.proofs.last_to_end.Statement.{statement}
@@ -21,7 +21,7 @@ last-requires : tie.Need-last-requires
 last-requires c κs =
     let at-slots-code = c .before in
     let at-entry = at-slots-code .before .before in
-    slots-fit (at-entry .args .u) (at-entry .args .e) (sym (at-slots-code .slots-code .ensures) ∙ c .if1 .left)
+    slots-small (at-entry .args .u) (at-entry .args .e) (sym (at-slots-code .slots-code .ensures) ∙ c .if1 .left)
 
 returns-2 : tie.Need-returns-2
 unfolding lastToEnd plainLast
@@ -31,7 +31,7 @@ returns-2 c =
     let at-if1 = at-last .before in
     let at-slots-code = at-if1 .before in
     let at-entry = at-slots-code .before .before in
-    slots-right (at-entry .args .u) (at-entry .args .e) (at-slots-code .slots-code .ensures) (at-if1 .if1 .left)
+    slots-pass (at-entry .args .u) (at-entry .args .e) (at-slots-code .slots-code .ensures) (at-if1 .if1 .left)
     (rw (at-last .last .ensures) at (largestX-gives (at-entry .pre) _ (at-largest-x .largest-x .ensures) (c .walked .ensures)))
 
 pub last-to-end-spec : {M : Type 1} → statement M

@@ -1,5 +1,5 @@
--- Backwards limits are refused; else the walk answers.
-use Rattle.promises.proofs.Ways.{limits-backwards, limits-right}
+-- Backwards limits are refused; else the walk answers. It assumes a sound pool.
+use Rattle.promises.proofs.Ways.{limits-backwards, limits-pass}
 use Rattle.plain.specs.Books.{plainSmallestX}
 use Rattle.promises.specs.Promises.{smallestXAsked}
 use Rattle.promises.proofs.Asked.{smallestX-gives}
@@ -20,7 +20,7 @@ returns-2 c =
     let at-smallest-x = c .before in
     let at-if1 = at-smallest-x .before in
     let at-entry = at-if1 .before .before in
-    limits-right (at-entry .args .x0) (at-entry .args .x1) (at-if1 .if1 .left) (smallestX-gives (at-entry .pre) _ (at-smallest-x .smallest-x .ensures) (c .walked .ensures))
+    limits-pass (at-entry .args .x0) (at-entry .args .x1) (at-if1 .if1 .left) (smallestX-gives (at-entry .pre) _ (at-smallest-x .smallest-x .ensures) (c .walked .ensures))
 
 pub smallest-x-spec : {M : Type 1} → statement M
 smallest-x-spec =

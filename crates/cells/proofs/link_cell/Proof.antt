@@ -1,5 +1,5 @@
 -- The test picks the cell. Nothing is assumed.
-use Rattle.pools.specs.Cells.{linkCell}
+use Rattle.pools.specs.Links.{linkCell}
 use borrow.Author.Needs.{needs}
 use Rattle.cells.proofs.link_cell.Statement.{statement}
 use Rattle.cells.proofs.link_cell.Tie as tie

@@ -1,5 +1,5 @@
 -- The test picks the link. It assumes that the slot's cells are there.
-use Rattle.pools.specs.Cells.{sonAt}
+use Rattle.pools.specs.Links.{sonAt}
 use borrow.Author.Needs.{needs}
 use Rattle.cells.proofs.son.Statement.{statement}
 use Rattle.cells.proofs.son.Tie as tie

@@ -2,7 +2,7 @@
 use mathlib.Core.Path.{_≡_, refl, ap, _∙_}
 use Rattle.pools.specs.Test.{chainFine}
 use Rattle.chain.specs.Judged.{verdict}
-use Rattle.chain.proofs.FreeChain.{free-fits, chain-ends, too-long, goes-on, breaks}
+use Rattle.chain.proofs.FreeChain.{free-fits, chain-ends, chain-too-long, chain-goes-on, breaks}
 use borrow.Author.Needs.{needs}
 use Rattle.chain.proofs.check_chain.Statement.{statement}
 use Rattle.chain.proofs.check_chain.Tie as tie
@@ -27,7 +27,7 @@ loop-again c =
     let at-free-fine = at-if3 .before in
     let at-if1 = at-free-fine .before in
     let at-loop = at-if1 .before in
-    goes-on _ _ _ _ (at-if1 .if1 .left) (at-free-fine .free-fine .ensures) _ (at-if3 .if3 .taken) (c .right .ensures) ∙ at-loop .loop .inv
+    chain-goes-on _ _ _ _ (at-if1 .if1 .left) (at-free-fine .free-fine .ensures) _ (at-if3 .if3 .taken) (c .right .ensures) ∙ at-loop .loop .inv
 
 returns : tie.Need-returns Inv-loop μ-loop
 returns c =
@@ -39,7 +39,7 @@ returns-2 : tie.Need-returns-2 Inv-loop μ-loop
 returns-2 c =
     let at-if1 = c .before in
     let at-loop = at-if1 .before in
-    too-long _ _ _ (at-if1 .if1 .taken) (c .if2 .left) ∙ ap verdict (at-loop .loop .inv)
+    chain-too-long _ _ _ (at-if1 .if1 .taken) (c .if2 .left) ∙ ap verdict (at-loop .loop .inv)
 
 returns-3 : tie.Need-returns-3 Inv-loop μ-loop
 returns-3 c =

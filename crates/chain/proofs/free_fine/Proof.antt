@@ -1,16 +1,16 @@
 -- Each way out is one law of FreeChain.antt, on the test that decides. Nothing is assumed.
-use Rattle.chain.proofs.FreeChain.{no-slot, too-far, some-x, some-y, the-mark}
+use Rattle.chain.proofs.FreeChain.{zero-not-free, beyond-pool, some-x, some-y, the-mark}
 use borrow.Author.Needs.{needs}
 use Rattle.chain.proofs.free_fine.Statement.{statement}
 use Rattle.chain.proofs.free_fine.Tie as tie
 
 returns : tie.Need-returns
-returns c = no-slot _ _ (c .if1 .taken)
+returns c = zero-not-free _ _ (c .if1 .taken)
 
 returns-2 : tie.Need-returns-2
 returns-2 c =
     let at-if1 = c .before in
-    too-far _ _ (at-if1 .if1 .left) (c .if2 .taken)
+    beyond-pool _ _ (at-if1 .if1 .left) (c .if2 .taken)
 
 returns-3 : tie.Need-returns-3
 returns-3 c =

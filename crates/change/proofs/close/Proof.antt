@@ -1,6 +1,6 @@
--- The code of the strip's numbers refuses; else its pair is deleted.
+-- The code of the strip's numbers refuses; else its pair is deleted. It assumes a sound pool.
 use mathlib.Core.Path.{sym, _∙_}
-use Rattle.strip.proofs.Fitting.{strip-fits}
+use Rattle.strip.proofs.Fitting.{strip-parts-small}
 use Rattle.change.proofs.Changed.{close-refused, close-made}
 use borrow.Author.Needs.{needs}
 use Rattle.change.proofs.close.Statement.{statement}
@@ -17,7 +17,7 @@ pair-requires c κs =
     let at-if1 = c .before in
     let at-strip-code = at-if1 .before in
     let at-entry = at-strip-code .before .before in
-    strip-fits (at-entry .args .start) (at-entry .args .end) (at-entry .args .number) (sym (at-strip-code .strip-code .ensures) ∙ at-if1 .if1 .left)
+    strip-parts-small (at-entry .args .start) (at-entry .args .end) (at-entry .args .number) (sym (at-strip-code .strip-code .ensures) ∙ at-if1 .if1 .left)
 
 returns-2 : tie.Need-returns-2
 returns-2 c =

@@ -1,4 +1,4 @@
--- Each way out is one case of the removal.
+-- Each way out is one case of the removal: x was missing, had another y, or the pair was taken out. It assumes a sound pool.
 use mathlib.Core.Path.{ap}
 use Rattle.change.proofs.Changed.{removalCode, delete-ends}
 use borrow.Author.Needs.{needs}

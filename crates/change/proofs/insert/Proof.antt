@@ -1,4 +1,4 @@
--- Each way out is one law.
+-- Each way out is one law of Changed.antt: x is stored, no slot is free, or the pair goes down. It assumes a sound pool.
 use native.Mathlib.Omega.{arith}
 use Rattle.change.proofs.Changed.{insert-taken, insert-full, insert-enters, insert-done}
 use borrow.Author.Needs.{needs}

@@ -1,4 +1,4 @@
--- The invariant: what is still to be read gives what was to be read at first.
+-- The invariant: what is still to be read gives what was to be read at first. Nothing is assumed.
 use Prim.Native.Nat.{_-_}
 use mathlib.Core.Path.{refl, sym, _∙_}
 use native.Mathlib.Omega.{arith}

@@ -1,4 +1,4 @@
--- Each test of the code is one of the definition's.
+-- Each test of the code is one of the definition's. Nothing is assumed.
 use borrow.Author.Tests.{le-leb, lt-leb}
 use Rattle.decimal.proofs.is_digit.Statement.{statement}
 use Rattle.decimal.proofs.is_digit.Tie as tie

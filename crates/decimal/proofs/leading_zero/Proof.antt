@@ -1,4 +1,4 @@
--- Each test of the code is one of the definition's.
+-- Each test of the code is one of the definition's. Nothing is assumed.
 use borrow.Author.Tests.{le-leb, lt-leb}
 use borrow.Author.Needs.{needs}
 use Rattle.decimal.proofs.leading_zero.Statement.{statement}

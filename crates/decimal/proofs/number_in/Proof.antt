@@ -1,4 +1,4 @@
--- The two tests come before the digits.
+-- The two tests come before the digits. Nothing is assumed.
 use mathlib.Core.Path.{sym, _∙_}
 use Rattle.decimal.proofs.Digits.{empty-word, zero-led, not-zero-led}
 use borrow.Author.Needs.{needs}

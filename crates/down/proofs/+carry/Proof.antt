@@ -1,7 +1,7 @@
 -- At an empty place the free slot is taken; at a slot the beaten pair goes on, to the son's place on its side. The levels fall: where a slot
 -- with another x stands there is a level below. Each need is one law of Carrying.antt.
 use Prim.Native.Nat.{ℕ, _<_}
-use Rattle.down.proofs.Carrying.{going-room, going-fits, put-there, some-left, one-less, goes-down, gone-down}
+use Rattle.down.proofs.Carrying.{going-room, going-fits, put-there, some-left, level-less, goes-down, gone-down}
 use borrow.Author.Needs.{needs}
 use borrow.Fn.Kinds.{In}
 use borrow.Fn.PlainCycle.{Measures, is, falls, and}
@@ -64,7 +64,7 @@ carry-carry-requires t c κs =
     let after-settle = after-side .before .before .before .before in
     let at-test = after-settle .before .before in
     let at-entry = at-test .before .before .before in
-    (one-less (at-entry .pre .1) (at-test .if1 .left) (at-entry .pre .0), goes-down (at-entry .pre .1) (at-test .if1 .left) (after-settle .settle .ensures) (after-side .is-left .ensures) (c .link-cell .ensures))
+    (level-less (at-entry .pre .1) (at-test .if1 .left) (at-entry .pre .0), goes-down (at-entry .pre .1) (at-test .if1 .left) (after-settle .settle .ensures) (after-side .is-left .ensures) (c .link-cell .ensures))
 
 carry-returns-2 : (t : ℕ) → carry-lts.Need-returns-2 (carry-calls t) (carry-at t) carry.Post
 carry-returns-2 t c =

@@ -1,4 +1,4 @@
--- The answer is the promised one, and its code is given.
+-- The answer is the promised one, and its code is given. Nothing is assumed.
 use Rattle.told.proofs.Telling.{tells-code}
 use borrow.Author.Needs.{needs}
 use Rattle.drecerunya.proofs.drecerunya_check.Statement.{statement}

@@ -1,4 +1,4 @@
--- The cells and the answer are the promised ones, and the code is given.
+-- The cells and the answer are the promised ones, and the code is given. Nothing is assumed.
 use Rattle.told.proofs.Telling.{tells-code}
 use borrow.Author.Needs.{needs}
 use Rattle.drecerunya.proofs.drecerunya_set_up.Statement.{statement}

@@ -1,5 +1,5 @@
 -- Each way out is one law of Lengths.antt. Nothing is assumed.
-use Rattle.fresh.proofs.Lengths.{odd, short, long}
+use Rattle.fresh.proofs.Lengths.{odd, under-eight, long}
 use borrow.Author.Needs.{needs}
 use Rattle.fresh.proofs.is_pool.Statement.{statement}
 use Rattle.fresh.proofs.is_pool.Tie as tie
@@ -8,7 +8,7 @@ returns : tie.Need-returns
 returns c = odd _ (c .if1 .taken)
 
 returns-2 : tie.Need-returns-2
-returns-2 c = short _ (c .if2 .taken)
+returns-2 c = under-eight _ (c .if2 .taken)
 
 returns-3 : tie.Need-returns-3
 returns-3 c =

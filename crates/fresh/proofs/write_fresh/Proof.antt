@@ -6,7 +6,7 @@ use borrow.Author.Needs.{needs}
 use lib.ListN.{length}
 use Rattle.pools.specs.Cells.{perSlot}
 use Rattle.pools.proofs.Fresh.{chained}
-use Rattle.fresh.proofs.Chaining.{turn, last, whole}
+use Rattle.fresh.proofs.Chaining.{turn, last-chained, whole-chain}
 use Rattle.fresh.proofs.write_fresh.Statement.{statement}
 use Rattle.fresh.proofs.write_fresh.Tie as tie
 
@@ -21,7 +21,7 @@ loop-again : tie.Need-loop-again Inv-loop μ-loop
 loop-again c = (c .before .before .put-free .kept .0 ∙ c .before .before .before .before .before .loop .inv .0, omega (arith, c .before .before .before .before .before .loop .inv .1), omega (arith, c .before .before .before .before .loop-test .taken), turn _ _ _ _ (c .before .before .before .before .loop-test .taken) (c .before .before .put-free .ensures) ∙ c .before .before .before .before .before .loop .inv .3)
 
 returns : tie.Need-returns Inv-loop μ-loop
-returns c = last _ _ _ _ (omega (arith, c .before .before .before .before .loop-test .left, c .before .before .before .before .before .loop .inv .2)) (c .before .before .put-free2 .ensures) ∙ c .before .before .before .before .before .loop .inv .3 ∙ whole _ _ (c .before .before .before .before .before .before .before .before .before .before .before .pre) (c .before .before .before .before .before .before .before .before .put-header .ensures)
+returns c = last-chained _ _ _ _ (omega (arith, c .before .before .before .before .loop-test .left, c .before .before .before .before .before .loop .inv .2)) (c .before .before .put-free2 .ensures) ∙ c .before .before .before .before .before .loop .inv .3 ∙ whole-chain _ _ (c .before .before .before .before .before .before .before .before .before .before .before .pre) (c .before .before .before .before .before .before .before .before .put-header .ensures)
 
 pub write-fresh-spec : {M : Type 1} → statement M
 write-fresh-spec =

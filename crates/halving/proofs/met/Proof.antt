@@ -7,7 +7,7 @@ use Rattle.pools.specs.Cells.{treeAt}
 use Rattle.kinds.specs.Shape.{stripeOf}
 use Rattle.trees.specs.Tree.{itself}
 use Rattle.halving.specs.Sought.{Sought}
-use Rattle.halving.proofs.Searching.{ends-here, there, deep, hit, goes-on, sought-on}
+use Rattle.halving.proofs.Searching.{ends-here, there, deep, hit, search-goes-on, sought-on}
 use Rattle.halving.proofs.met.Statement.{statement}
 use Rattle.halving.proofs.met.Tie as tie
 
@@ -57,7 +57,7 @@ loop-again c =
     let turn = at-slot .before .loop .inv in
     let other = rw (at-pair .pair .ensures) at (at-x .if2 .left) in (
       sought-on _ _ _ _ _ (turn .0) (at-slot .if1 .left) other _ _ _ (after-side .goes-left .ensures) (after-son .son .ensures) (c .towards .ensures),
-      goes-on _ _ _ _ _ (turn .0) (at-slot .if1 .left) other _ _ _ (after-side .goes-left .ensures) (after-son .son .ensures) (c .towards .ensures) ∙ turn .1,
+      search-goes-on _ _ _ _ _ (turn .0) (at-slot .if1 .left) other _ _ _ (after-side .goes-left .ensures) (after-son .son .ensures) (c .towards .ensures) ∙ turn .1,
     )
 
 returns : tie.Need-returns Inv-loop μ-loop

@@ -1,6 +1,6 @@
 -- Each way out is one law of Deletion.antt, about what the search met: the place is empty, holds another y, or holds the pair. It assumes
 -- a sound pool.
-use Rattle.way.proofs.Ways.{place-there, slot-fits}
+use Rattle.way.proofs.Ways.{place-there, slot-on-way}
 use Rattle.hole.proofs.Deletion.{ends-missing, hole-there, ends-other, some-counted, ends-done}
 use borrow.Author.Needs.{needs}
 use Rattle.hole.proofs.delete.Statement.{statement}
@@ -26,7 +26,7 @@ pair-requires c κs =
     let at-slot = c .before in
     let after-find = at-slot .before .before in
     let at-entry = after-find .before .before .before in
-    slot-fits (at-entry .pre) (after-find .find .ensures .way) (at-slot .if1 .left)
+    slot-on-way (at-entry .pre) (after-find .find .ensures .way) (at-slot .if1 .left)
 
 returns-2 : tie.Need-returns-2
 returns-2 c =

@@ -1,6 +1,6 @@
 -- Each way out is one law of Heirs.antt: no son, the right one alone, the left one alone, or both and the better. It assumes that the cells
 -- of the slot and of its sons are there.
-use Rattle.hole.proofs.Heirs.{neither, only-right, only-left, both-sons}
+use Rattle.hole.proofs.Heirs.{no-heir, only-right, only-left, both-sons}
 use borrow.Author.Needs.{needs}
 use Rattle.hole.proofs.heir.Statement.{statement}
 use Rattle.hole.proofs.heir.Tie as tie
@@ -10,7 +10,7 @@ returns c =
     let at-left = c .before in
     let after-right = at-left .before in
     let after-left = after-right .before in
-    neither _ _ (after-left .left .ensures) (after-right .right .ensures) (at-left .if1 .taken) (c .if2 .taken)
+    no-heir _ _ (after-left .left .ensures) (after-right .right .ensures) (at-left .if1 .taken) (c .if2 .taken)
 
 returns-2 : tie.Need-returns-2
 returns-2 c =

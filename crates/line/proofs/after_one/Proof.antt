@@ -1,9 +1,9 @@
--- The second word, and those behind it.
+-- The second word, and those behind it. Nothing is assumed.
 use mathlib.Core.Path.{sym, _∙_}
 use Prim.Native.Nat.{_+_}
 use lib.Seq.{length-take-le}
 use mathlib.Core.List.{[], _∷_}
-use Rattle.line.proofs.Words.{not-a-number, last-number, more-numbers, the-rest}
+use Rattle.line.proofs.Words.{not-a-number, last-number, numbers-go-on, the-rest}
 use borrow.Author.Needs.{needs}
 use Rattle.line.proofs.after_one.Statement.{statement}
 use Rattle.line.proofs.after_one.Tie as tie
@@ -31,7 +31,7 @@ returns-3 c =
     let at-number-in = at-b .before .before in
     let at-word-length = at-number-in .before .before in
     let at-entry = at-word-length .before .before in
-    c .after-two .ensures ∙ more-numbers (_ ∷ []) _ _ (at-word-length .word-length .ensures .0) _ (sym (at-number-in .number-in .ensures) ∙ at-b .b .given .1) (at-if1 .if1 .left) _ (the-rest (at-word-length .word-length .result + 1) (at-entry .args .text .now))
+    c .after-two .ensures ∙ numbers-go-on (_ ∷ []) _ _ (at-word-length .word-length .ensures .0) _ (sym (at-number-in .number-in .ensures) ∙ at-b .b .given .1) (at-if1 .if1 .left) _ (the-rest (at-word-length .word-length .result + 1) (at-entry .args .text .now))
 
 pub after-one-spec : {M : Type 1} → statement M
 after-one-spec =

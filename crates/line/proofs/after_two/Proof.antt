@@ -1,8 +1,8 @@
--- The third word is the last, or there are too many.
+-- The third word is the last, or there are too many. Nothing is assumed.
 use mathlib.Core.Path.{refl, sym, _∙_}
 use lib.Seq.{length-take-le}
 use mathlib.Core.List.{[], _∷_}
-use Rattle.line.proofs.Words.{not-a-number, last-number, more-numbers, too-many}
+use Rattle.line.proofs.Words.{not-a-number, last-number, numbers-go-on, too-many}
 use borrow.Author.Needs.{needs}
 use Rattle.line.proofs.after_two.Statement.{statement}
 use Rattle.line.proofs.after_two.Tie as tie
@@ -28,7 +28,7 @@ returns-3 c =
     let at-c = c .before .before in
     let at-number-in = at-c .before .before in
     let at-word-length = at-number-in .before .before in
-    too-many _ _ _ _ ∙ more-numbers (_ ∷ _ ∷ []) _ _ (at-word-length .word-length .ensures .0) _ (sym (at-number-in .number-in .ensures) ∙ at-c .c .given .1) (c .if1 .left) _ refl
+    too-many _ _ _ _ ∙ numbers-go-on (_ ∷ _ ∷ []) _ _ (at-word-length .word-length .ensures .0) _ (sym (at-number-in .number-in .ensures) ∙ at-c .c .given .1) (c .if1 .left) _ refl
 
 pub after-two-spec : {M : Type 1} → statement M
 after-two-spec =

@@ -1,9 +1,9 @@
--- The first word, and those behind it.
+-- The first word, and those behind it. Nothing is assumed.
 use mathlib.Core.Path.{sym, _∙_}
 use Prim.Native.Nat.{_+_}
 use lib.Seq.{length-take-le}
 use mathlib.Core.List.{[]}
-use Rattle.line.proofs.Words.{not-a-number, last-number, more-numbers, the-rest}
+use Rattle.line.proofs.Words.{not-a-number, last-number, numbers-go-on, the-rest}
 use borrow.Author.Needs.{needs}
 use Rattle.line.proofs.numbers_in.Statement.{statement}
 use Rattle.line.proofs.numbers_in.Tie as tie
@@ -31,7 +31,7 @@ returns-3 c =
     let at-number-in = at-a .before .before in
     let at-word-length = at-number-in .before .before in
     let at-entry = at-word-length .before .before in
-    c .after-one .ensures ∙ more-numbers [] _ _ (at-word-length .word-length .ensures .0) _ (sym (at-number-in .number-in .ensures) ∙ at-a .a .given .1) (at-if1 .if1 .left) _ (the-rest (at-word-length .word-length .result + 1) (at-entry .args .text .now))
+    c .after-one .ensures ∙ numbers-go-on [] _ _ (at-word-length .word-length .ensures .0) _ (sym (at-number-in .number-in .ensures) ∙ at-a .a .given .1) (at-if1 .if1 .left) _ (the-rest (at-word-length .word-length .result + 1) (at-entry .args .text .now))
 
 pub numbers-in-spec : {M : Type 1} → statement M
 numbers-in-spec =

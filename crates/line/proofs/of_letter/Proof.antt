@@ -1,4 +1,4 @@
--- By how many numbers there are.
+-- By how many numbers there are. Nothing is assumed.
 use borrow.Author.Needs.{needs}
 use Rattle.line.proofs.of_letter.Statement.{statement}
 use Rattle.line.proofs.of_letter.Tie as tie

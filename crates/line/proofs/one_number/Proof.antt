@@ -1,4 +1,4 @@
--- By the letter.
+-- By the letter. Nothing is assumed.
 use borrow.Author.Tests.{ne-eqb}
 use Rattle.line.proofs.one_number.Statement.{statement}
 use Rattle.line.proofs.one_number.Tie as tie

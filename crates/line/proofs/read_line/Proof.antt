@@ -1,4 +1,4 @@
--- The first two bytes decide what the first word is.
+-- The first two bytes decide what the first word is. Nothing is assumed.
 use mathlib.Core.Path.{_∙_}
 use Rattle.line.proofs.Words.{the-rest}
 use Rattle.line.proofs.Lines.{too-long, too-few, no-space, letter-first}

@@ -1,4 +1,4 @@
--- The place of the first space is the length of the first word.
+-- The place of the first space is the length of the first word. Nothing is assumed.
 use Rattle.line.proofs.Words.{found-space}
 use borrow.Author.Needs.{needs}
 use Rattle.line.proofs.word_length.Statement.{statement}

@@ -1,4 +1,4 @@
--- Too few bytes, or what is done and printed.
+-- Too few bytes, or what is done and printed. It assumes a sound pool.
 use mathlib.Core.Path.{sym, _∙_}
 use borrow.Author.Tests.{ltb-false}
 use Rattle.lines.proofs.Answering.{short-output, line-done}

@@ -1,4 +1,4 @@
--- By what is asked.
+-- By what is asked: each kind of line is one law of Answering.antt. It assumes a sound pool, and room for what a line can print.
 use Rattle.lines.proofs.Answering.{open-prints, close-prints, first-prints, last-prints, covers-prints, bad-prints}
 use borrow.Author.Needs.{needs}
 use Rattle.lines.proofs.perform.Statement.{statement}

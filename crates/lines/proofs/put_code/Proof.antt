@@ -1,4 +1,4 @@
--- A row of one number.
+-- A row of one number. It assumes room for 55 bytes.
 use Rattle.text.specs.Text.{row}
 use borrow.Author.Needs.{needs}
 use Rattle.lines.proofs.put_code.Statement.{statement}

@@ -1,4 +1,4 @@
--- Five numbers, three of them a strip's.
+-- Five numbers, three of them a strip's. It assumes room for 55 bytes.
 use native.Mathlib.Omega.{arith}
 use Rattle.text.proofs.Printing.{room-behind, room-behind-strip}
 use Rattle.lines.proofs.Answering.{found-put}

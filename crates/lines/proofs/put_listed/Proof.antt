@@ -1,4 +1,4 @@
--- Three numbers, and the rows.
+-- Three numbers, and the rows. It assumes room for what a line can print.
 use Prim.Native.Nat.{_+_, _*_, _/_}
 use native.Mathlib.Omega.{arith}
 use lib.ListN.{length}

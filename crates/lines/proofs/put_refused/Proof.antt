@@ -1,4 +1,4 @@
--- By what is asked.
+-- By what is asked: a refused line prints what its kind prints, by the code alone. It assumes room for what a line can print.
 use Rattle.lines.specs.Writing.{refusedRows}
 use borrow.Author.Needs.{needs}
 use Rattle.lines.proofs.put_refused.Statement.{statement}

@@ -1,4 +1,4 @@
--- The sum of the definition, turned round so that it cannot wrap.
+-- The sum of the definition, turned round so that it cannot wrap. Nothing is assumed.
 use Rattle.lines.proofs.Answering.{few-bytes, enough-bytes}
 use Rattle.lines.proofs.too_short.Statement.{statement}
 use Rattle.lines.proofs.too_short.Tie as tie

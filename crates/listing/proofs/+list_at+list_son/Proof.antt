@@ -1,4 +1,5 @@
--- Each way out of a slot is one law; a son that is there and asked goes on with a level less.
+-- Each way out of a slot is one law; a son that is there and asked goes on with a level less. It assumes a place that can be walked
+-- (`Walkable`), and a count within the room.
 use Prim.Native.Nat.{ℕ, _+_, _*_, _<_}
 use native.Mathlib.Omega.{arith}
 use Rattle.listing.proofs.Filling.{still-fits}

@@ -1,4 +1,5 @@
--- The listing from the root: without a root nothing is listed; else the walk's count says whether there was room for all.
+-- The listing from the root of a pool that is assumed sound: without a root nothing is listed; else the walk's count says whether there was room
+-- for all.
 use native.Mathlib.Omega.{arith}
 use mathlib.Core.Path.{refl}
 use Rattle.listing.proofs.ListTop.{from-root, room-fits, count-fits, list-full, list-whole, list-empty}

@@ -1,4 +1,4 @@
--- Each way out is one law.
+-- Each way out is one law of ListWalk.antt: the pair is out of range, finds no room, or is written. It assumes a count within the room.
 use native.Mathlib.Omega.{arith}
 use lib.ListN.{length-set}
 use borrow.Author.Tests.{not-true, not-false}

@@ -3,7 +3,7 @@
 use Prim.Native.Nat.{ℕ, _+_, _*_, _<_}
 use native.Mathlib.Omega.{arith}
 use Rattle.questions.proofs.Places.{there, one-more}
-use Rattle.lowest.proofs.YWalk.{left-deep, right-deep, left-here, right-here, right-then, both, left-only, right-only, neither, sons-asked, own-pair, below}
+use Rattle.lowest.proofs.YWalk.{left-deep, right-deep, left-here, right-here, right-then, both-asked, left-only, right-only, neither-asked, sons-asked, own-pair, from-sons}
 use borrow.Author.Needs.{needs}
 use borrow.Fn.Kinds.{In}
 use borrow.Fn.PlainCycle.{Measures, is, falls, and}
@@ -64,26 +64,59 @@ better-son-goes-left-requires-2 : (t : ℕ) → better-son-lts.Need-goes-left-re
 better-son-goes-left-requires-2 t c κs = c .before .before .before .pre .1 .low
 
 better-son-sub-smallest-y-at : (t : ℕ) → better-son-lts.Need-sub-smallest-y-at (better-son-calls t) (better-son-at t) better-son.Post
-better-son-sub-smallest-y-at t c = let d = left-deep _ _ _ _ _ _ _ _ (c .before .before .before .before .before .before .pre .1) _ (c .before .before .before .before .goes-left .ensures) _ (c .before .before .before .asks .ensures) _ (c .before .before .goes-left2 .ensures) _ (c .before .asks2 .ensures) (c .if1 .taken) in omega arith
+better-son-sub-smallest-y-at t c =
+    let at-asks2 = c .before in
+    let at-goes-left2 = at-asks2 .before in
+    let at-asks = at-goes-left2 .before in
+    let at-goes-left = at-asks .before in
+    let at-entry = at-goes-left .before .before in
+    let d = left-deep _ _ _ _ _ _ _ _ (at-entry .pre .1) _ (at-goes-left .goes-left .ensures) _ (at-asks .asks .ensures) _ (at-goes-left2 .goes-left2 .ensures) _ (at-asks2 .asks2 .ensures) (c .if1 .taken) in omega arith
 
 better-son-left-requires : (t : ℕ) → better-son-lts.Need-left-requires (better-son-calls t) (better-son-at t) better-son.Post
-better-son-left-requires t c κs = c .before .before .before .before .before .before .pre .1 .low
+better-son-left-requires t c κs =
+    let at-entry = c .before .before .before .before .before .before in
+    at-entry .pre .1 .low
 
 better-son-smallest-y-at-requires : (t : ℕ) → better-son-lts.Need-smallest-y-at-requires (better-son-calls t) (better-son-at t) better-son.Post
 better-son-smallest-y-at-requires t c κs =
-    let d = left-deep _ _ _ _ _ _ _ _ (c .before .before .before .before .before .before .before .before .pre .1) _ (c .before .before .before .before .before .before .goes-left .ensures) _ (c .before .before .before .before .before .asks .ensures) _ (c .before .before .before .before .goes-left2 .ensures) _ (c .before .before .before .asks2 .ensures) (c .before .before .if1 .taken) in
-    (omega (arith, c .before .before .before .before .before .before .before .before .pre .0), left-here _ _ _ _ _ _ _ _ (c .before .before .before .before .before .before .before .before .pre .1) _ (c .before .before .before .before .before .before .goes-left .ensures) _ (c .before .before .before .before .before .asks .ensures) _ (c .before .before .before .before .goes-left2 .ensures) _ (c .before .before .before .asks2 .ensures) _ (c .before .before .if1 .taken) (c .before .left .ensures))
+    let at-left = c .before in
+    let at-if1 = at-left .before in
+    let at-asks2 = at-if1 .before in
+    let at-goes-left2 = at-asks2 .before in
+    let at-asks = at-goes-left2 .before in
+    let at-goes-left = at-asks .before in
+    let at-entry = at-goes-left .before .before in
+    let d = left-deep _ _ _ _ _ _ _ _ (at-entry .pre .1) _ (at-goes-left .goes-left .ensures) _ (at-asks .asks .ensures) _ (at-goes-left2 .goes-left2 .ensures) _ (at-asks2 .asks2 .ensures) (at-if1 .if1 .taken) in
+    (omega (arith, at-entry .pre .0), left-here _ _ _ _ _ _ _ _ (at-entry .pre .1) _ (at-goes-left .goes-left .ensures) _ (at-asks .asks .ensures) _ (at-goes-left2 .goes-left2 .ensures) _ (at-asks2 .asks2 .ensures) _ (at-if1 .if1 .taken) (at-left .left .ensures))
 
 better-son-sub-smallest-y-at-2 : (t : ℕ) → better-son-lts.Need-sub-smallest-y-at-2 (better-son-calls t) (better-son-at t) better-son.Post
-better-son-sub-smallest-y-at-2 t c = let d = right-deep _ _ _ _ _ _ _ _ (c .before .before .before .before .before .before .before .before .before .before .pre .1) _ (c .before .before .before .before .before .before .before .before .goes-left .ensures) _ (c .before .before .before .before .before .before .before .asks .ensures) _ (c .before .before .before .before .before .before .goes-left2 .ensures) _ (c .before .before .before .before .before .asks2 .ensures) (c .if2 .taken) in omega arith
+better-son-sub-smallest-y-at-2 t c =
+    let at-asks2 = c .before .before .before .before .before in
+    let at-goes-left2 = at-asks2 .before in
+    let at-asks = at-goes-left2 .before in
+    let at-goes-left = at-asks .before in
+    let at-entry = at-goes-left .before .before in
+    let d = right-deep _ _ _ _ _ _ _ _ (at-entry .pre .1) _ (at-goes-left .goes-left .ensures) _ (at-asks .asks .ensures) _ (at-goes-left2 .goes-left2 .ensures) _ (at-asks2 .asks2 .ensures) (c .if2 .taken) in omega arith
 
 better-son-right-requires : (t : ℕ) → better-son-lts.Need-right-requires (better-son-calls t) (better-son-at t) better-son.Post
-better-son-right-requires t c κs = c .before .before .before .before .before .before .before .before .before .before .pre .1 .low
+better-son-right-requires t c κs =
+    let at-entry = c .before .before .before .before .before .before .before .before .before .before in
+    at-entry .pre .1 .low
 
 better-son-smallest-y-at-requires-2 : (t : ℕ) → better-son-lts.Need-smallest-y-at-requires-2 (better-son-calls t) (better-son-at t) better-son.Post
 better-son-smallest-y-at-requires-2 t c κs =
-    let d = right-deep _ _ _ _ _ _ _ _ (c .before .before .before .before .before .before .before .before .before .before .before .before .pre .1) _ (c .before .before .before .before .before .before .before .before .before .before .goes-left .ensures) _ (c .before .before .before .before .before .before .before .before .before .asks .ensures) _ (c .before .before .before .before .before .before .before .before .goes-left2 .ensures) _ (c .before .before .before .before .before .before .before .asks2 .ensures) (c .before .before .if2 .taken) in
-    (omega (arith, c .before .before .before .before .before .before .before .before .before .before .before .before .pre .0), right-then _ _ _ _ _ _ _ _ (c .before .before .before .before .before .before .before .before .before .before .before .before .pre .1) _ (c .before .before .before .before .before .before .before .before .before .before .goes-left .ensures) _ (c .before .before .before .before .before .before .before .before .before .asks .ensures) _ (c .before .before .before .before .before .before .before .before .goes-left2 .ensures) _ (c .before .before .before .before .before .before .before .asks2 .ensures) _ (c .before .before .before .before .before .before .if1 .taken) (c .before .before .before .before .before .left .ensures) _ _ (c .before .before .before .smallest-y-at .ensures) _ (c .before .before .if2 .taken) (c .before .right .ensures))
+    let at-right = c .before in
+    let at-if2 = at-right .before in
+    let at-smallest-y-at = at-if2 .before in
+    let at-left = at-smallest-y-at .before .before in
+    let at-if1 = at-left .before in
+    let at-asks2 = at-if1 .before in
+    let at-goes-left2 = at-asks2 .before in
+    let at-asks = at-goes-left2 .before in
+    let at-goes-left = at-asks .before in
+    let at-entry = at-goes-left .before .before in
+    let d = right-deep _ _ _ _ _ _ _ _ (at-entry .pre .1) _ (at-goes-left .goes-left .ensures) _ (at-asks .asks .ensures) _ (at-goes-left2 .goes-left2 .ensures) _ (at-asks2 .asks2 .ensures) (at-if2 .if2 .taken) in
+    (omega (arith, at-entry .pre .0), right-then _ _ _ _ _ _ _ _ (at-entry .pre .1) _ (at-goes-left .goes-left .ensures) _ (at-asks .asks .ensures) _ (at-goes-left2 .goes-left2 .ensures) _ (at-asks2 .asks2 .ensures) _ (at-if1 .if1 .taken) (at-left .left .ensures) _ _ (at-smallest-y-at .smallest-y-at .ensures) _ (at-if2 .if2 .taken) (at-right .right .ensures))
 
 better-son-lower-requires : (t : ℕ) → better-son-lts.Need-lower-requires (better-son-calls t) (better-son-at t) better-son.Post
 better-son-lower-requires t c κs =
@@ -103,7 +136,7 @@ better-son-returns t c =
     let at-asks = at-goes-left2 .before in
     let at-goes-left = at-asks .before in
     let at-entry = at-goes-left .before .before in
-    both _ _ _ _ _ _ _ _ (at-entry .pre .1) _ (at-goes-left .goes-left .ensures) _ (at-asks .asks .ensures) _ (at-goes-left2 .goes-left2 .ensures) _ (at-asks2 .asks2 .ensures) _ (at-if1 .if1 .taken) (at-left .left .ensures) _ _ (at-smallest-y-at .smallest-y-at .ensures) _ (at-if2 .if2 .taken) (at-right .right .ensures) _ _ _ (at-smallest-y-at2 .smallest-y-at2 .ensures) (c .lower .ensures)
+    both-asked _ _ _ _ _ _ _ _ (at-entry .pre .1) _ (at-goes-left .goes-left .ensures) _ (at-asks .asks .ensures) _ (at-goes-left2 .goes-left2 .ensures) _ (at-asks2 .asks2 .ensures) _ (at-if1 .if1 .taken) (at-left .left .ensures) _ _ (at-smallest-y-at .smallest-y-at .ensures) _ (at-if2 .if2 .taken) (at-right .right .ensures) _ _ _ (at-smallest-y-at2 .smallest-y-at2 .ensures) (c .lower .ensures)
 
 better-son-returns-2 : (t : ℕ) → better-son-lts.Need-returns-2 (better-son-calls t) (better-son-at t) better-son.Post
 better-son-returns-2 t c =
@@ -118,15 +151,30 @@ better-son-returns-2 t c =
     left-only _ _ _ _ _ _ _ _ (at-entry .pre .1) _ (at-goes-left .goes-left .ensures) _ (at-asks .asks .ensures) _ (at-goes-left2 .goes-left2 .ensures) _ (at-asks2 .asks2 .ensures) _ (at-if1 .if1 .taken) (at-left .left .ensures) _ _ (at-smallest-y-at .smallest-y-at .ensures) (c .if2 .left)
 
 better-son-sub-smallest-y-at-3 : (t : ℕ) → better-son-lts.Need-sub-smallest-y-at-3 (better-son-calls t) (better-son-at t) better-son.Post
-better-son-sub-smallest-y-at-3 t c = let d = right-deep _ _ _ _ _ _ _ _ (c .before .before .before .before .before .before .before .pre .1) _ (c .before .before .before .before .before .goes-left .ensures) _ (c .before .before .before .before .asks .ensures) _ (c .before .before .before .goes-left2 .ensures) _ (c .before .before .asks2 .ensures) (c .if3 .taken) in omega arith
+better-son-sub-smallest-y-at-3 t c =
+    let at-asks2 = c .before .before in
+    let at-goes-left2 = at-asks2 .before in
+    let at-asks = at-goes-left2 .before in
+    let at-goes-left = at-asks .before in
+    let at-entry = at-goes-left .before .before in
+    let d = right-deep _ _ _ _ _ _ _ _ (at-entry .pre .1) _ (at-goes-left .goes-left .ensures) _ (at-asks .asks .ensures) _ (at-goes-left2 .goes-left2 .ensures) _ (at-asks2 .asks2 .ensures) (c .if3 .taken) in omega arith
 
 better-son-right-requires-2 : (t : ℕ) → better-son-lts.Need-right-requires-2 (better-son-calls t) (better-son-at t) better-son.Post
-better-son-right-requires-2 t c κs = c .before .before .before .before .before .before .before .pre .1 .low
+better-son-right-requires-2 t c κs =
+    let at-entry = c .before .before .before .before .before .before .before in
+    at-entry .pre .1 .low
 
 better-son-smallest-y-at-requires-3 : (t : ℕ) → better-son-lts.Need-smallest-y-at-requires-3 (better-son-calls t) (better-son-at t) better-son.Post
 better-son-smallest-y-at-requires-3 t c κs =
-    let d = right-deep _ _ _ _ _ _ _ _ (c .before .before .before .before .before .before .before .before .before .pre .1) _ (c .before .before .before .before .before .before .before .goes-left .ensures) _ (c .before .before .before .before .before .before .asks .ensures) _ (c .before .before .before .before .before .goes-left2 .ensures) _ (c .before .before .before .before .asks2 .ensures) (c .before .before .if3 .taken) in
-    (omega (arith, c .before .before .before .before .before .before .before .before .before .pre .0), right-here _ _ _ _ _ _ _ _ (c .before .before .before .before .before .before .before .before .before .pre .1) _ (c .before .before .before .before .before .before .before .goes-left .ensures) _ (c .before .before .before .before .before .before .asks .ensures) _ (c .before .before .before .before .before .goes-left2 .ensures) _ (c .before .before .before .before .asks2 .ensures) _ (c .before .before .if3 .taken) (c .before .right2 .ensures))
+    let at-right2 = c .before in
+    let at-if3 = at-right2 .before in
+    let at-asks2 = at-if3 .before .before in
+    let at-goes-left2 = at-asks2 .before in
+    let at-asks = at-goes-left2 .before in
+    let at-goes-left = at-asks .before in
+    let at-entry = at-goes-left .before .before in
+    let d = right-deep _ _ _ _ _ _ _ _ (at-entry .pre .1) _ (at-goes-left .goes-left .ensures) _ (at-asks .asks .ensures) _ (at-goes-left2 .goes-left2 .ensures) _ (at-asks2 .asks2 .ensures) (at-if3 .if3 .taken) in
+    (omega (arith, at-entry .pre .0), right-here _ _ _ _ _ _ _ _ (at-entry .pre .1) _ (at-goes-left .goes-left .ensures) _ (at-asks .asks .ensures) _ (at-goes-left2 .goes-left2 .ensures) _ (at-asks2 .asks2 .ensures) _ (at-if3 .if3 .taken) (at-right2 .right2 .ensures))
 
 better-son-returns-3 : (t : ℕ) → better-son-lts.Need-returns-3 (better-son-calls t) (better-son-at t) better-son.Post
 better-son-returns-3 t c =
@@ -148,7 +196,7 @@ better-son-returns-4 t c =
     let at-asks = at-goes-left2 .before in
     let at-goes-left = at-asks .before in
     let at-entry = at-goes-left .before .before in
-    neither _ _ _ _ _ _ _ _ (at-entry .pre .1) _ (at-goes-left .goes-left .ensures) _ (at-asks .asks .ensures) _ (at-goes-left2 .goes-left2 .ensures) _ (at-asks2 .asks2 .ensures) (at-if1 .if1 .left) (c .if3 .left)
+    neither-asked _ _ _ _ _ _ _ _ (at-entry .pre .1) _ (at-goes-left .goes-left .ensures) _ (at-asks .asks .ensures) _ (at-goes-left2 .goes-left2 .ensures) _ (at-asks2 .asks2 .ensures) (at-if1 .if1 .left) (c .if3 .left)
 
 smallest-y-at-add-visits : (t : ℕ) → smallest-y-at-lts.Need-add-visits (smallest-y-at-calls t) (smallest-y-at-at t) smallest-y-at.Post
 smallest-y-at-add-visits t c = let z = one-more _ _ _ _ _ (c .before .before .pre .1 .0) (c .before .before .pre .1 .1) in omega arith
@@ -164,13 +212,21 @@ smallest-y-at-returns t c =
     own-pair _ _ _ _ _ (at-entry .pre .1 .0) (at-entry .pre .1 .1) _ _ _ (at-pair .pair .ensures) _ (at-in-range .in-range .ensures) (c .if1 .taken)
 
 smallest-y-at-left-requires : (t : ℕ) → smallest-y-at-lts.Need-left-requires (smallest-y-at-calls t) (smallest-y-at-at t) smallest-y-at.Post
-smallest-y-at-left-requires t c κs = there _ _ _ _ _ (c .before .before .before .before .before .pre .1 .0) (c .before .before .before .before .before .pre .1 .1)
+smallest-y-at-left-requires t c κs =
+    let at-entry = c .before .before .before .before .before in
+    there _ _ _ _ _ (at-entry .pre .1 .0) (at-entry .pre .1 .1)
 
 smallest-y-at-right-requires : (t : ℕ) → smallest-y-at-lts.Need-right-requires (smallest-y-at-calls t) (smallest-y-at-at t) smallest-y-at.Post
-smallest-y-at-right-requires t c κs = there _ _ _ _ _ (c .before .before .before .before .before .before .pre .1 .0) (c .before .before .before .before .before .before .pre .1 .1)
+smallest-y-at-right-requires t c κs =
+    let at-entry = c .before .before .before .before .before .before in
+    there _ _ _ _ _ (at-entry .pre .1 .0) (at-entry .pre .1 .1)
 
 smallest-y-at-better-son-requires : (t : ℕ) → smallest-y-at-lts.Need-better-son-requires (smallest-y-at-calls t) (smallest-y-at-at t) smallest-y-at.Post
-smallest-y-at-better-son-requires t c κs = (omega (arith, c .before .before .before .before .before .before .before .before .pre .0), sons-asked _ _ _ _ _ (c .before .before .before .before .before .before .before .before .pre .1 .0) (c .before .before .before .before .before .before .before .before .pre .1 .1) _ _ (c .before .before .left .ensures) (c .before .right .ensures))
+smallest-y-at-better-son-requires t c κs =
+    let at-right = c .before in
+    let at-left = at-right .before in
+    let at-entry = at-left .before .before .before .before .before .before in
+    (omega (arith, at-entry .pre .0), sons-asked _ _ _ _ _ (at-entry .pre .1 .0) (at-entry .pre .1 .1) _ _ (at-left .left .ensures) (at-right .right .ensures))
 
 smallest-y-at-returns-2 : (t : ℕ) → smallest-y-at-lts.Need-returns-2 (smallest-y-at-calls t) (smallest-y-at-at t) smallest-y-at.Post
 smallest-y-at-returns-2 t c =
@@ -180,7 +236,7 @@ smallest-y-at-returns-2 t c =
     let at-in-range = at-if1 .before in
     let at-pair = at-in-range .before in
     let at-entry = at-pair .before .before .before in
-    below _ _ _ _ _ (at-entry .pre .1 .0) (at-entry .pre .1 .1) _ _ _ (at-pair .pair .ensures) _ (at-in-range .in-range .ensures) (at-if1 .if1 .left) _ _ (at-left .left .ensures) (at-right .right .ensures) _ _ (c .better-son .ensures)
+    from-sons _ _ _ _ _ (at-entry .pre .1 .0) (at-entry .pre .1 .1) _ _ _ (at-pair .pair .ensures) _ (at-in-range .in-range .ensures) (at-if1 .if1 .left) _ _ (at-left .left .ensures) (at-right .right .ensures) _ _ (c .better-son .ensures)
 
 pub +better-son+smallest-y-at-spec : {M : Type 1} → statement M
 +better-son+smallest-y-at-spec = close μ-better-son μ-smallest-y-at (λ t. better-son-lts.spec (better-son-calls t) (better-son-at t) better-son.Post

@@ -1,4 +1,4 @@
--- A word and the version.
+-- A word and the version. It assumes room for the head, and a length of 32 bits.
 use Rattle.pages.proofs.Bytes.{one-head}
 use borrow.Author.Needs.{needs}
 use Rattle.pages.proofs.put_head.Statement.{statement}

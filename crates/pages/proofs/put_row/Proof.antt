@@ -1,4 +1,4 @@
--- Two words.
+-- Two words. It assumes room for the row.
 use Rattle.pages.proofs.Bytes.{one-row}
 use borrow.Author.Needs.{needs}
 use Rattle.pages.proofs.put_row.Statement.{statement}

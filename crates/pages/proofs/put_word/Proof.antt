@@ -1,4 +1,4 @@
--- Four stores are a word.
+-- Four stores are a word. It assumes room for the four.
 use native.Mathlib.Omega.{arith}
 use lib.ListN.{length-set}
 use Rattle.pages.proofs.Bytes.{one-word}

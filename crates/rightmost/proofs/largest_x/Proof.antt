@@ -10,8 +10,8 @@ use Rattle.kinds.specs.Stripe.{lowLevels, allLevels, rootStripe}
 use Rattle.walks.specs.Walks.{largestX}
 use Rattle.questions.proofs.Top.{header}
 use Rattle.nearest.specs.Waiting.{InRows}
-use Rattle.nearest.proofs.InRows.{toWalk, here-fits, middle-fits, at-end, pop, pop-less, fits, one-more, too-high, high-less, to-far, to-near, room-left, push, far-less, near-less, push-less, start}
-use Rattle.nearest.proofs.Sides.{largest, largest-sons}
+use Rattle.nearest.proofs.InRows.{toWalk, here-fits, middle-fits, at-end, pop, pop-less, fits, one-more, row-too-high, high-less, to-far, to-near, room-left, push, far-less, near-less, push-less, start}
+use Rattle.nearest.proofs.Sides.{largest-x-walk, largest-sons}
 use Rattle.rightmost.proofs.largest_x.Statement.{statement}
 use Rattle.rightmost.proofs.largest_x.Tie as tie
 
@@ -65,7 +65,7 @@ loop-again : tie.Need-loop-again Inv-loop μ-loop
 loop-again c =
     let at-if1 = c .before in
     let at-loop = at-if1 .before in
-    pop (at-loop .loop .inv) (largest _) (at-if1 .if1 .taken) (c .if2 .left)
+    pop (at-loop .loop .inv) (largest-x-walk _) (at-if1 .if1 .taken) (c .if2 .left)
 
 add-visits : tie.Need-add-visits Inv-loop μ-loop
 add-visits c = omega (arith, one-more (c .before .loop .inv) (c .if1 .left))
@@ -86,7 +86,7 @@ loop-again-2 c =
     let at-pair = c .before .before in
     let at-if1 = at-pair .before in
     let at-loop = at-if1 .before in
-    too-high (at-loop .loop .inv) (largest _) (at-if1 .if1 .left) (largest-sons _ _ _ _ _ (here-fits (at-loop .loop .inv)) (at-if1 .if1 .left) _ _ _ _ refl refl refl refl) (at-pair .pair .ensures) (c .if3 .taken)
+    row-too-high (at-loop .loop .inv) (largest-x-walk _) (at-if1 .if1 .left) (largest-sons _ _ _ _ _ (here-fits (at-loop .loop .inv)) (at-if1 .if1 .left) _ _ _ _ refl refl refl refl) (at-pair .pair .ensures) (c .if3 .taken)
 
 larger-of-requires : tie.Need-larger-of-requires Inv-loop μ-loop
 larger-of-requires c κs = (omega (arith, c .before .before .before .before .if1 .left), fits (c .before .before .before .before .before .loop .inv) (c .before .before .before .before .if1 .left), c .before .before .before .before .before .loop .inv .goes-on .some)
@@ -114,7 +114,7 @@ loop-less-3 c =
     let at-pair = at-if3 .before .before in
     let at-if1 = at-pair .before in
     let at-loop = at-if1 .before in
-    far-less (at-loop .loop .inv) (largest _) (at-if1 .if1 .left) (largest-sons _ _ _ _ _ (here-fits (at-loop .loop .inv)) (at-if1 .if1 .left) _ _ _ _ (at-left-asked .left-asked .ensures) (at-right-asked .right-asked .ensures) (c .left .ensures) refl) (at-pair .pair .ensures) (at-if3 .if3 .left) (at-in-range .in-range .ensures) (at-larger-of .larger-of .ensures) (at-still .still .ensures)
+    far-less (at-loop .loop .inv) (largest-x-walk _) (at-if1 .if1 .left) (largest-sons _ _ _ _ _ (here-fits (at-loop .loop .inv)) (at-if1 .if1 .left) _ _ _ _ (at-left-asked .left-asked .ensures) (at-right-asked .right-asked .ensures) (c .left .ensures) refl) (at-pair .pair .ensures) (at-if3 .if3 .left) (at-in-range .in-range .ensures) (at-larger-of .larger-of .ensures) (at-still .still .ensures)
 
 loop-again-3 : tie.Need-loop-again-3 Inv-loop μ-loop
 loop-again-3 c =
@@ -128,7 +128,7 @@ loop-again-3 c =
     let at-pair = at-if3 .before .before in
     let at-if1 = at-pair .before in
     let at-loop = at-if1 .before in
-    to-far (at-loop .loop .inv) (largest _) (at-if1 .if1 .left) (largest-sons _ _ _ _ _ (here-fits (at-loop .loop .inv)) (at-if1 .if1 .left) _ _ _ _ (at-left-asked .left-asked .ensures) (at-right-asked .right-asked .ensures) (c .left .ensures) refl) (at-pair .pair .ensures) (at-if3 .if3 .left) (at-in-range .in-range .ensures) (at-larger-of .larger-of .ensures) (at-still .still .ensures) (at-if4 .if4 .taken)
+    to-far (at-loop .loop .inv) (largest-x-walk _) (at-if1 .if1 .left) (largest-sons _ _ _ _ _ (here-fits (at-loop .loop .inv)) (at-if1 .if1 .left) _ _ _ _ (at-left-asked .left-asked .ensures) (at-right-asked .right-asked .ensures) (c .left .ensures) refl) (at-pair .pair .ensures) (at-if3 .if3 .left) (at-in-range .in-range .ensures) (at-larger-of .larger-of .ensures) (at-still .still .ensures) (at-if4 .if4 .taken)
 
 right-requires : tie.Need-right-requires Inv-loop μ-loop
 right-requires c κs = middle-fits (c .before .before .before .before .before .before .before .before .before .before .loop .inv)
@@ -147,7 +147,7 @@ room c =
     let at-pair = at-if3 .before .before in
     let at-if1 = at-pair .before in
     let at-loop = at-if1 .before in
-    room-left (at-loop .loop .inv) (largest _) (at-if1 .if1 .left) (largest-sons _ _ _ _ _ (here-fits (at-loop .loop .inv)) (at-if1 .if1 .left) _ _ _ _ (at-left-asked .left-asked .ensures) (at-right-asked .right-asked .ensures) (c .left2 .ensures) (at-right .right .ensures)) (at-pair .pair .ensures) (at-if3 .if3 .left) (at-in-range .in-range .ensures) (at-larger-of .larger-of .ensures) (at-still .still .ensures) (at-if4 .if4 .left)
+    room-left (at-loop .loop .inv) (largest-x-walk _) (at-if1 .if1 .left) (largest-sons _ _ _ _ _ (here-fits (at-loop .loop .inv)) (at-if1 .if1 .left) _ _ _ _ (at-left-asked .left-asked .ensures) (at-right-asked .right-asked .ensures) (c .left2 .ensures) (at-right .right .ensures)) (at-pair .pair .ensures) (at-if3 .if3 .left) (at-in-range .in-range .ensures) (at-larger-of .larger-of .ensures) (at-still .still .ensures) (at-if4 .if4 .left)
 
 mul-slots : tie.Need-mul-slots Inv-loop μ-loop
 mul-slots c = omega (arith, room c)
@@ -183,7 +183,7 @@ loop-less-4 c =
     let at-pair = at-if3 .before .before in
     let at-if1 = at-pair .before in
     let at-loop = at-if1 .before in
-    push-less (at-loop .loop .inv) (largest _) (at-if1 .if1 .left) (largest-sons _ _ _ _ _ (here-fits (at-loop .loop .inv)) (at-if1 .if1 .left) _ _ _ _ (at-left-asked .left-asked .ensures) (at-right-asked .right-asked .ensures) (c .left2 .ensures) (at-right .right .ensures)) (at-pair .pair .ensures) (at-if3 .if3 .left) (at-in-range .in-range .ensures) (at-larger-of .larger-of .ensures) (at-still .still .ensures) (at-if4 .if4 .left)
+    push-less (at-loop .loop .inv) (largest-x-walk _) (at-if1 .if1 .left) (largest-sons _ _ _ _ _ (here-fits (at-loop .loop .inv)) (at-if1 .if1 .left) _ _ _ _ (at-left-asked .left-asked .ensures) (at-right-asked .right-asked .ensures) (c .left2 .ensures) (at-right .right .ensures)) (at-pair .pair .ensures) (at-if3 .if3 .left) (at-in-range .in-range .ensures) (at-larger-of .larger-of .ensures) (at-still .still .ensures) (at-if4 .if4 .left)
 
 loop-again-4 : tie.Need-loop-again-4 Inv-loop μ-loop
 loop-again-4 c =
@@ -198,7 +198,7 @@ loop-again-4 c =
     let at-pair = at-if3 .before .before in
     let at-if1 = at-pair .before in
     let at-loop = at-if1 .before in
-    push (at-loop .loop .inv) (largest _) (at-if1 .if1 .left) (largest-sons _ _ _ _ _ (here-fits (at-loop .loop .inv)) (at-if1 .if1 .left) _ _ _ _ (at-left-asked .left-asked .ensures) (at-right-asked .right-asked .ensures) (c .left2 .ensures) (at-right .right .ensures)) (at-pair .pair .ensures) (at-if3 .if3 .left) (at-in-range .in-range .ensures) (at-larger-of .larger-of .ensures) (at-still .still .ensures) (at-if4 .if4 .left)
+    push (at-loop .loop .inv) (largest-x-walk _) (at-if1 .if1 .left) (largest-sons _ _ _ _ _ (here-fits (at-loop .loop .inv)) (at-if1 .if1 .left) _ _ _ _ (at-left-asked .left-asked .ensures) (at-right-asked .right-asked .ensures) (c .left2 .ensures) (at-right .right .ensures)) (at-pair .pair .ensures) (at-if3 .if3 .left) (at-in-range .in-range .ensures) (at-larger-of .larger-of .ensures) (at-still .still .ensures) (at-if4 .if4 .left)
 
 loop-less-5 : tie.Need-loop-less-5 Inv-loop μ-loop
 loop-less-5 c =
@@ -212,7 +212,7 @@ loop-less-5 c =
     let at-pair = at-if3 .before .before in
     let at-if1 = at-pair .before in
     let at-loop = at-if1 .before in
-    near-less (at-loop .loop .inv) (largest _) (at-if1 .if1 .left) (largest-sons _ _ _ _ _ (here-fits (at-loop .loop .inv)) (at-if1 .if1 .left) _ _ _ _ (at-left-asked .left-asked .ensures) (at-right-asked .right-asked .ensures) refl (at-right .right .ensures)) (at-pair .pair .ensures) (at-if3 .if3 .left) (at-in-range .in-range .ensures) (at-larger-of .larger-of .ensures) (at-still .still .ensures)
+    near-less (at-loop .loop .inv) (largest-x-walk _) (at-if1 .if1 .left) (largest-sons _ _ _ _ _ (here-fits (at-loop .loop .inv)) (at-if1 .if1 .left) _ _ _ _ (at-left-asked .left-asked .ensures) (at-right-asked .right-asked .ensures) refl (at-right .right .ensures)) (at-pair .pair .ensures) (at-if3 .if3 .left) (at-in-range .in-range .ensures) (at-larger-of .larger-of .ensures) (at-still .still .ensures)
 
 loop-again-5 : tie.Need-loop-again-5 Inv-loop μ-loop
 loop-again-5 c =
@@ -226,14 +226,14 @@ loop-again-5 c =
     let at-pair = at-if3 .before .before in
     let at-if1 = at-pair .before in
     let at-loop = at-if1 .before in
-    to-near (at-loop .loop .inv) (largest _) (at-if1 .if1 .left) (largest-sons _ _ _ _ _ (here-fits (at-loop .loop .inv)) (at-if1 .if1 .left) _ _ _ _ (at-left-asked .left-asked .ensures) (at-right-asked .right-asked .ensures) refl (at-right .right .ensures)) (at-pair .pair .ensures) (at-if3 .if3 .left) (at-in-range .in-range .ensures) (at-larger-of .larger-of .ensures) (at-still .still .ensures) (c .if5 .left)
+    to-near (at-loop .loop .inv) (largest-x-walk _) (at-if1 .if1 .left) (largest-sons _ _ _ _ _ (here-fits (at-loop .loop .inv)) (at-if1 .if1 .left) _ _ _ _ (at-left-asked .left-asked .ensures) (at-right-asked .right-asked .ensures) refl (at-right .right .ensures)) (at-pair .pair .ensures) (at-if3 .if3 .left) (at-in-range .in-range .ensures) (at-larger-of .larger-of .ensures) (at-still .still .ensures) (c .if5 .left)
 
 returns : tie.Need-returns Inv-loop μ-loop
 returns c =
     let at-if2 = c .before in
     let at-if1 = at-if2 .before in
     let at-loop = at-if1 .before in
-    at-end (at-loop .loop .inv) (largest _) (at-if1 .if1 .taken) (at-if2 .if2 .taken) (c .found-at .ensures)
+    at-end (at-loop .loop .inv) (largest-x-walk _) (at-if1 .if1 .taken) (at-if2 .if2 .taken) (c .found-at .ensures)
 
 pub largest-x-spec : {M : Type 1} → statement M
 largest-x-spec =

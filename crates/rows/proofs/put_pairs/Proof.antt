@@ -1,6 +1,6 @@
--- The invariant: what is still to be written, written, gives what was to be written at first.
+-- The invariant: what is still to be written, written, gives what was to be written at first. It assumes a sound pool, and room for the book.
 use mathlib.Core.Path.{refl}
-use Rattle.rows.proofs.Next.{toWrite, Turn, nothing-left, next, one-less, next-last, first-turn, all-written, room-here, next-turn, last-written}
+use Rattle.rows.proofs.Next.{toWrite, Turn, nothing-left, next-pair, one-less, next-last, first-turn, all-written, room-here, next-turn, last-written}
 use borrow.Author.Needs.{needs}
 use lib.ListN.{length}
 use Rattle.rows.proofs.put_pairs.Statement.{statement}
@@ -22,7 +22,7 @@ put-row-requires c κs =
     let at-loop = at-smallest-x .before in
     let at-shared-slice-known = at-loop .before .before in
     let at-entry = at-shared-slice-known .before in
-    room-here _ _ _ _ _ (at-loop .loop .inv) _ _ (next _ (at-shared-slice-known .shared-slice-known .given) (at-entry .pre .0) _ _ (at-smallest-x .smallest-x .ensures) _ (at-f .f .given .1))
+    room-here _ _ _ _ _ (at-loop .loop .inv) _ _ (next-pair _ (at-shared-slice-known .shared-slice-known .given) (at-entry .pre .0) _ _ (at-smallest-x .smallest-x .ensures) _ (at-f .f .given .1))
 
 loop-less : tie.Need-loop-less Inv-loop μ-loop
 loop-less c =
@@ -40,7 +40,7 @@ loop-again c =
     let at-loop = at-smallest-x .before in
     let at-shared-slice-known = at-loop .before .before in
     let at-entry = at-shared-slice-known .before in
-    next-turn _ _ _ _ _ (at-loop .loop .inv) _ _ (next _ (at-shared-slice-known .shared-slice-known .given) (at-entry .pre .0) _ _ (at-smallest-x .smallest-x .ensures) _ (at-f .f .given .1)) _ (at-put-row .put-row .ensures) _ refl
+    next-turn _ _ _ _ _ (at-loop .loop .inv) _ _ (next-pair _ (at-shared-slice-known .shared-slice-known .given) (at-entry .pre .0) _ _ (at-smallest-x .smallest-x .ensures) _ (at-f .f .given .1)) _ (at-put-row .put-row .ensures) _ refl
 
 returns : tie.Need-returns Inv-loop μ-loop
 returns c =

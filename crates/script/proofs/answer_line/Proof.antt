@@ -1,4 +1,4 @@
--- Too few bytes, a refusal before the call, or what is done and printed.
+-- Too few bytes, a refusal before the call, or what is done and printed. Nothing is assumed.
 use mathlib.Core.Path.{sym, _∙_}
 use borrow.Author.Tests.{ltb-false}
 use Rattle.lines.proofs.Answering.{short-output, line-done, refused-prints, refusal-sound}

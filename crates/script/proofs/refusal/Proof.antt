@@ -1,4 +1,4 @@
--- A malformed line needs no check; every other line is refused by the verdict.
+-- A malformed line needs no check; every other line is refused by the verdict. Nothing is assumed.
 use Prim.Native.Nat.{ℕ}
 use mathlib.Core.Path.{_≡_}
 use mathlib.Core.List.{List, [], _∷_}

@@ -1,4 +1,4 @@
--- Contains, by its two slots.
+-- Contains, by its two slots. It assumes that v is at most 65,535.
 use borrow.Author.Needs.{needs}
 use Rattle.strip.proofs.contains.Statement.{statement}
 use Rattle.strip.proofs.contains.Tie as tie

@@ -1,4 +1,4 @@
--- Covers, by its slot twice.
+-- Covers, by its slot twice. It assumes that u is at most 65,535.
 use borrow.Author.Needs.{needs}
 use Rattle.strip.proofs.covers.Statement.{statement}
 use Rattle.strip.proofs.covers.Tie as tie

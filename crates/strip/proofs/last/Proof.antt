@@ -1,4 +1,4 @@
--- Last, by the last x of its end.
+-- Last, by the last x of its end. It assumes that u and e are at most 65,535.
 use borrow.Author.Needs.{needs}
 use Rattle.strip.proofs.last.Statement.{statement}
 use Rattle.strip.proofs.last.Tie as tie

@@ -1,4 +1,4 @@
--- Meets, by its two slots.
+-- Meets, by its two slots. It assumes that u is at most 65,535.
 use borrow.Author.Needs.{needs}
 use Rattle.strip.proofs.meets.Statement.{statement}
 use Rattle.strip.proofs.meets.Tie as tie

@@ -1,4 +1,4 @@
--- The slot's own test decides.
+-- The slot's own test decides. Nothing is assumed.
 use borrow.Author.Needs.{needs}
 use Rattle.strip.proofs.Fitting.{slot-over, slot-right}
 use Rattle.strip.proofs.slot_code.Statement.{statement}

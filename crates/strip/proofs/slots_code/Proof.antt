@@ -1,4 +1,4 @@
--- The tests of the slots, and then their order.
+-- The tests of the slots, and then their order. Nothing is assumed.
 use borrow.Author.Needs.{needs}
 use Rattle.strip.proofs.Fitting.{slots-over, slots-backwards, slots-right}
 use Rattle.strip.proofs.slots_code.Statement.{statement}

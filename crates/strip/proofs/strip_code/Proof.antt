@@ -1,4 +1,4 @@
--- The tests of the numbers, each by its own call.
+-- The tests of the numbers, each by its own call. Nothing is assumed.
 use borrow.Author.Needs.{needs}
 use Rattle.strip.proofs.Fitting.{strip-bad, strip-right}
 use Rattle.strip.proofs.strip_code.Statement.{statement}

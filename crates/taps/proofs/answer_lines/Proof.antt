@@ -27,7 +27,9 @@ abbrev μ-loop : tie.MeasureT-loop
 μ-loop cells₀ room₀ input to output₀ from₀ held₀ cells room output from held = to - from
 
 loop-holds : tie.Need-loop-holds Inv-loop μ-loop
-loop-holds c = record { sound = c .before .before .before .before .pre .0; from-to = omega arith; held-within = omega arith; cells-same = refl; room-same = refl; output-same = refl }
+loop-holds c =
+    let at-entry = c .before .before .before .before in
+    record { sound = at-entry .pre .0; from-to = omega arith; held-within = omega arith; cells-same = refl; room-same = refl; output-same = refl }
 
 find-requires : tie.Need-find-requires Inv-loop μ-loop
 find-requires c κs =

@@ -26,7 +26,9 @@ abbrev μ-loop : tie.MeasureT-loop
 μ-loop cells₀ room₀ input₀ output₀ kept₀ left₀ cells room input output kept left = left
 
 loop-holds : tie.Need-loop-holds Inv-loop μ-loop
-loop-holds c = record { sound = c .before .before .before .before .pre; kept-within = omega arith; cells-same = refl; room-same = refl; input-same = refl; output-same = refl }
+loop-holds c =
+    let at-entry = c .before .before .before .before in
+    record { sound = at-entry .pre; kept-within = omega arith; cells-same = refl; room-same = refl; input-same = refl; output-same = refl }
 
 turn-requires : tie.Need-turn-requires Inv-loop μ-loop
 turn-requires c κs =
@@ -58,7 +60,9 @@ same-length-4 c =
     at-turn .turn .kept .1 .1 .1 .1 .0 ∙ at-loop .loop .inv .output-same
 
 returns : tie.Need-returns Inv-loop μ-loop
-returns c = c .before .before .before .before .before .before .before .before .before .before .turn .ensures
+returns c =
+    let at-turn = c .before .before .before .before .before .before .before .before .before .before in
+    at-turn .turn .ensures
 
 loop-again : tie.Need-loop-again Inv-loop μ-loop
 loop-again c =

@@ -1,4 +1,4 @@
--- By the places that are left: the digits of n / 10 first, then the last.
+-- By the places that are left: the digits of n / 10 first, then the last. It assumes room for as many digits as there are places.
 use Prim.Native.Nat.{ℕ, _<_}
 use native.Mathlib.Omega.{arith}
 use lib.ListN.{length-set}
@@ -36,13 +36,24 @@ put-front-sub-put-front : (t : ℕ) → put-front-lts.Need-sub-put-front (put-fr
 put-front-sub-put-front t c = omega (arith, c .before .before .if1 .left)
 
 put-front-put-front-requires : (t : ℕ) → put-front-lts.Need-put-front-requires (put-front-calls t) (put-front-at t) put-front.Post
-put-front-put-front-requires t c κs = (omega (arith, c .before .before .before .before .pre .0, c .before .before .if1 .left), omega (arith, c .before .before .before .before .pre .1, c .before .before .if1 .left))
+put-front-put-front-requires t c κs =
+    let at-if1 = c .before .before in
+    let at-entry = at-if1 .before .before in
+    (omega (arith, at-entry .pre .0, at-if1 .if1 .left), omega (arith, at-entry .pre .1, at-if1 .if1 .left))
 
 put-front-slice-write-text : (t : ℕ) → put-front-lts.Need-slice-write-text (put-front-calls t) (put-front-at t) put-front.Post
-put-front-slice-write-text t c = place-left _ _ _ _ _ _ (c .before .before .before .put-front .ensures) (omega (arith, c .before .before .before .before .before .before .before .before .pre .1, c .before .before .before .before .before .before .if1 .left))
+put-front-slice-write-text t c =
+    let at-put-front = c .before .before .before in
+    let at-if1 = at-put-front .before .before .before in
+    let at-entry = at-if1 .before .before in
+    place-left _ _ _ _ _ _ (at-put-front .put-front .ensures) (omega (arith, at-entry .pre .1, at-if1 .if1 .left))
 
 put-front-add-result : (t : ℕ) → put-front-lts.Need-add-result (put-front-calls t) (put-front-at t) put-front.Post
-put-front-add-result t c = let h = place-left _ _ _ _ _ _ (c .before .before .before .put-front .ensures) (omega (arith, c .before .before .before .before .before .before .before .before .pre .1, c .before .before .before .before .before .before .if1 .left)) in search needs
+put-front-add-result t c =
+    let at-put-front = c .before .before .before in
+    let at-if1 = at-put-front .before .before .before in
+    let at-entry = at-if1 .before .before in
+    let h = place-left _ _ _ _ _ _ (at-put-front .put-front .ensures) (omega (arith, at-entry .pre .1, at-if1 .if1 .left)) in search needs
 
 put-front-same-length : (t : ℕ) → put-front-lts.Need-same-length (put-front-calls t) (put-front-at t) put-front.Post
 put-front-same-length t c = simp length-set (puts-length (c .before .before .before .put-front .ensures))

@@ -1,4 +1,4 @@
--- The invariant: the rows so far are put, and there is room for those to come.
+-- The invariant: the rows so far are put, and there is room for those to come. It assumes room for 33 bytes a match.
 use Prim.Native.Nat.{_-_}
 use native.Mathlib.Omega.{arith}
 use Rattle.text.proofs.Printing.{Rows, first-row, next-row, all-rows, puts-length}

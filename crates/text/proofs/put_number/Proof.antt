@@ -1,4 +1,4 @@
--- The digits in front, the last digit, the byte behind.
+-- The digits in front, the last digit, the byte behind. It assumes room for 11 bytes.
 use native.Mathlib.Omega.{arith}
 use lib.ListN.{length-set}
 use Rattle.text.proofs.Printing.{two-left, number-put}

@@ -1,4 +1,4 @@
--- Three numbers, one behind the other.
+-- Three numbers, one behind the other. It assumes room for 33 bytes.
 use native.Mathlib.Omega.{arith}
 use Rattle.text.proofs.Printing.{room-behind, puts-then}
 use borrow.Author.Needs.{needs}

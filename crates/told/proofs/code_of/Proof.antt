@@ -1,4 +1,4 @@
--- The code is that of the answer's numbers.
+-- The code is that of the answer's numbers. Nothing is assumed.
 use Rattle.told.proofs.Telling.{code-told}
 use borrow.Author.Needs.{needs}
 use Rattle.told.proofs.code_of.Statement.{statement}

@@ -1,4 +1,4 @@
--- The array holds the answer's numbers side by side.
+-- The array holds the answer's numbers side by side. Nothing is assumed.
 use Rattle.told.proofs.Telling.{all-told}
 use borrow.Author.Needs.{needs}
 use Rattle.told.proofs.tell.Statement.{statement}

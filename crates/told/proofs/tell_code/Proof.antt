@@ -1,4 +1,4 @@
--- The array holds the code, and nothing beside it.
+-- The array holds the code, and nothing beside it. Nothing is assumed.
 use Rattle.told.proofs.Telling.{code-alone}
 use Rattle.told.proofs.tell_code.Statement.{statement}
 use Rattle.told.proofs.tell_code.Tie as tie

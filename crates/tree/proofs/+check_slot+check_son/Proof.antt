@@ -60,10 +60,14 @@ check-slot-right-requires : (t : ℕ) → check-slot-lts.Need-right-requires (ch
 check-slot-right-requires t c κs = c .before .before .before .pre .1 .0
 
 check-slot-left-requires-2 : (t : ℕ) → check-slot-lts.Need-left-requires-2 (check-slot-calls t) (check-slot-at t) check-slot.Post
-check-slot-left-requires-2 t c κs = c .before .before .before .before .pre .1 .2
+check-slot-left-requires-2 t c κs =
+    let at-entry = c .before .before .before .before in
+    at-entry .pre .1 .2
 
 check-slot-check-son-requires : (t : ℕ) → check-slot-lts.Need-check-son-requires (check-slot-calls t) (check-slot-at t) check-slot.Post
-check-slot-check-son-requires t c κs = (omega (arith, c .before .before .before .before .before .pre .0), (c .before .before .before .before .before .pre .1 .1, low-left (c .before .before .before .before .before .pre .1 .2) (c .left2 .ensures)))
+check-slot-check-son-requires t c κs =
+    let at-entry = c .before .before .before .before .before in
+    (omega (arith, at-entry .pre .0), (at-entry .pre .1 .1, low-left (at-entry .pre .1 .2) (c .left2 .ensures)))
 
 check-slot-returns : (t : ℕ) → check-slot-lts.Need-returns (check-slot-calls t) (check-slot-at t) check-slot.Post
 check-slot-returns t c =
@@ -75,10 +79,14 @@ check-slot-returns t c =
     left-faulty _ _ _ _ _ _ _ (at-pair .pair .ensures) (at-left .left .ensures) (at-right .right .ensures) _ _ (at-left2 .left2 .ensures) (at-check-son .check-son .ensures) (c .enum-told .given .1)
 
 check-slot-right-requires-2 : (t : ℕ) → check-slot-lts.Need-right-requires-2 (check-slot-calls t) (check-slot-at t) check-slot.Post
-check-slot-right-requires-2 t c κs = c .before .before .before .before .before .before .before .before .before .pre .1 .2
+check-slot-right-requires-2 t c κs =
+    let at-entry = c .before .before .before .before .before .before .before .before .before in
+    at-entry .pre .1 .2
 
 check-slot-check-son-requires-2 : (t : ℕ) → check-slot-lts.Need-check-son-requires-2 (check-slot-calls t) (check-slot-at t) check-slot.Post
-check-slot-check-son-requires-2 t c κs = (omega (arith, c .before .before .before .before .before .before .before .before .before .before .pre .0), (c .before .before .before .before .before .before .before .before .before .before .pre .1 .1, low-right (c .before .before .before .before .before .before .before .before .before .before .pre .1 .2) (c .right2 .ensures)))
+check-slot-check-son-requires-2 t c κs =
+    let at-entry = c .before .before .before .before .before .before .before .before .before .before in
+    (omega (arith, at-entry .pre .0), (at-entry .pre .1 .1, low-right (at-entry .pre .1 .2) (c .right2 .ensures)))
 
 check-slot-returns-2 : (t : ℕ) → check-slot-lts.Need-returns-2 (check-slot-calls t) (check-slot-at t) check-slot.Post
 check-slot-returns-2 t c =
@@ -93,7 +101,13 @@ check-slot-returns-2 t c =
     right-faulty _ _ _ _ _ _ _ (at-pair .pair .ensures) (at-left .left .ensures) (at-right .right .ensures) _ _ (at-left2 .left2 .ensures) (at-check-son .check-son .ensures) _ (at-a .a .given .1) _ _ (at-right2 .right2 .ensures) (at-check-son2 .check-son2 .ensures) (c .enum-told2 .given .1)
 
 check-slot-again-requires : (t : ℕ) → check-slot-lts.Need-again-requires (check-slot-calls t) (check-slot-at t) check-slot.Post
-check-slot-again-requires t c κs = (may-search _ _ _ _ _ _ _ _ (c .before .before .before .before .before .before .before .before .check-son .ensures) (c .before .before .before .before .before .before .a .given .1) (c .before .before .before .before .before .before .before .before .before .before .before .before .before .before .pre .1 .2), may-search _ _ _ _ _ _ _ _ (c .before .before .before .check-son2 .ensures) (c .before .b .given .1) (c .before .before .before .before .before .before .before .before .before .before .before .before .before .before .pre .1 .2))
+check-slot-again-requires t c κs =
+    let at-b = c .before in
+    let at-check-son2 = at-b .before .before in
+    let at-a = at-check-son2 .before .before .before in
+    let at-check-son = at-a .before .before in
+    let at-entry = at-check-son .before .before .before .before .before .before in
+    (may-search _ _ _ _ _ _ _ _ (at-check-son .check-son .ensures) (at-a .a .given .1) (at-entry .pre .1 .2), may-search _ _ _ _ _ _ _ _ (at-check-son2 .check-son2 .ensures) (at-b .b .given .1) (at-entry .pre .1 .2))
 
 check-slot-returns-3 : (t : ℕ) → check-slot-lts.Need-returns-3 (check-slot-calls t) (check-slot-at t) check-slot.Post
 check-slot-returns-3 t c =
@@ -111,14 +125,24 @@ check-slot-returns-3 t c =
 
 check-slot-add-t14 : (t : ℕ) → check-slot-lts.Need-add-t14 (check-slot-calls t) (check-slot-at t) check-slot.Post
 check-slot-add-t14 t c =
-    let i = few-counted _ _ _ _ _ _ _ (c .before .before .before .before .before .before .before .before .before .before .before .before .before .before .before .before .pre .1 .1) (c .before .before .before .before .before .before .before .before .before .before .check-son .ensures) (c .before .before .before .before .before .before .before .before .a .given .1) in
-    let j = few-counted _ _ _ _ _ _ _ (c .before .before .before .before .before .before .before .before .before .before .before .before .before .before .before .before .pre .1 .1) (c .before .before .before .before .before .check-son2 .ensures) (c .before .before .before .b .given .1) in
+    let at-b = c .before .before .before in
+    let at-check-son2 = at-b .before .before in
+    let at-a = at-check-son2 .before .before .before in
+    let at-check-son = at-a .before .before in
+    let at-entry = at-check-son .before .before .before .before .before .before in
+    let i = few-counted _ _ _ _ _ _ _ (at-entry .pre .1 .1) (at-check-son .check-son .ensures) (at-a .a .given .1) in
+    let j = few-counted _ _ _ _ _ _ _ (at-entry .pre .1 .1) (at-check-son2 .check-son2 .ensures) (at-b .b .given .1) in
     omega arith
 
 check-slot-add-t15 : (t : ℕ) → check-slot-lts.Need-add-t15 (check-slot-calls t) (check-slot-at t) check-slot.Post
 check-slot-add-t15 t c =
-    let i = few-counted _ _ _ _ _ _ _ (c .before .before .before .before .before .before .before .before .before .before .before .before .before .before .before .before .pre .1 .1) (c .before .before .before .before .before .before .before .before .before .before .check-son .ensures) (c .before .before .before .before .before .before .before .before .a .given .1) in
-    let j = few-counted _ _ _ _ _ _ _ (c .before .before .before .before .before .before .before .before .before .before .before .before .before .before .before .before .pre .1 .1) (c .before .before .before .before .before .check-son2 .ensures) (c .before .before .before .b .given .1) in
+    let at-b = c .before .before .before in
+    let at-check-son2 = at-b .before .before in
+    let at-a = at-check-son2 .before .before .before in
+    let at-check-son = at-a .before .before in
+    let at-entry = at-check-son .before .before .before .before .before .before in
+    let i = few-counted _ _ _ _ _ _ _ (at-entry .pre .1 .1) (at-check-son .check-son .ensures) (at-a .a .given .1) in
+    let j = few-counted _ _ _ _ _ _ _ (at-entry .pre .1 .1) (at-check-son2 .check-son2 .ensures) (at-b .b .given .1) in
     omega arith
 
 check-slot-returns-4 : (t : ℕ) → check-slot-lts.Need-returns-4 (check-slot-calls t) (check-slot-at t) check-slot.Post
@@ -140,9 +164,11 @@ check-son-sub-check-slot t c = let d = son-fork _ _ _ _ _ (c .before .before .lo
 
 check-son-check-slot-requires : (t : ℕ) → check-son-lts.Need-check-slot-requires (check-son-calls t) (check-son-at t) check-son.Post
 check-son-check-slot-requires t c κs =
-    let b = son-fork _ _ _ _ _ (c .before .before .look-at-son .ensures) (c .enum-told3 .given .1) in
+    let at-look-at-son = c .before .before in
+    let at-entry = at-look-at-son .before .before in
+    let b = son-fork _ _ _ _ _ (at-look-at-son .look-at-son .ensures) (c .enum-told3 .given .1) in
     let d = b .deep in
-    (omega (arith, c .before .before .before .before .pre .0), (fork-fits _ _ _ _ _ b, omega (arith, c .before .before .before .before .pre .1 .0), c .before .before .before .before .pre .1 .1))
+    (omega (arith, at-entry .pre .0), (fork-fits _ _ _ _ _ b, omega (arith, at-entry .pre .1 .0), at-entry .pre .1 .1))
 
 check-son-returns : (t : ℕ) → check-son-lts.Need-returns (check-son-calls t) (check-son-at t) check-son.Post
 check-son-returns t c =

@@ -35,7 +35,11 @@ returns-4 c =
     bad (faulty-order _ _ _ _ _ (at-if1 .if1 .left) _ _ (at-if2 .if2 .left) (at-pair .pair .ensures) (at-beats .beats .ensures) (not-true _ (c .if4 .taken)))
 
 left-requires : tie.Need-left-requires
-left-requires c κs = fine-fits _ _ _ _ (omega (arith, c .before .before .before .before .before .before .if1 .left)) (c .before .before .before .before .slot-fine .ensures) (not-false _ (c .before .before .before .if3 .left))
+left-requires c κs =
+    let at-if3 = c .before .before .before in
+    let at-slot-fine = at-if3 .before in
+    let at-if1 = at-slot-fine .before .before in
+    fine-fits _ _ _ _ (omega (arith, at-if1 .if1 .left)) (at-slot-fine .slot-fine .ensures) (not-false _ (at-if3 .if3 .left))
 
 returns-5 : tie.Need-returns-5
 returns-5 c =
@@ -49,7 +53,11 @@ returns-5 c =
     branch (at-if1 .if1 .left) (at-if2 .if2 .left) (sym (at-slot-fine .slot-fine .ensures) ∙ not-false _ (at-if3 .if3 .left)) (rw (at-pair .pair .ensures) at (sym (at-beats .beats .ensures) ∙ not-false _ (at-if4 .if4 .left)))
 
 right-requires : tie.Need-right-requires
-right-requires c κs = fine-fits _ _ _ _ (omega (arith, c .before .before .before .before .before .before .before .before .if1 .left)) (c .before .before .before .before .before .before .slot-fine .ensures) (not-false _ (c .before .before .before .before .before .if3 .left))
+right-requires c κs =
+    let at-if3 = c .before .before .before .before .before in
+    let at-slot-fine = at-if3 .before in
+    let at-if1 = at-slot-fine .before .before in
+    fine-fits _ _ _ _ (omega (arith, at-if1 .if1 .left)) (at-slot-fine .slot-fine .ensures) (not-false _ (at-if3 .if3 .left))
 
 returns-6 : tie.Need-returns-6
 returns-6 c =

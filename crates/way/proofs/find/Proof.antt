@@ -3,7 +3,7 @@
 use native.Mathlib.Omega.{arith}
 use Rattle.pools.specs.Sound.{Sound}
 use Rattle.way.specs.Way.{OnTheWay, root}
-use Rattle.way.proofs.Ways.{few-levels, place-there, slot-fits, a-level, way-on}
+use Rattle.way.proofs.Ways.{few-levels, place-there, slot-on-way, a-level, way-on}
 use borrow.Author.Needs.{needs}
 use Rattle.way.proofs.find.Statement.{statement}
 use Rattle.way.proofs.find.Tie as tie
@@ -27,7 +27,7 @@ returns : tie.Need-returns Inv-loop μ-loop
 returns c = record { way = c .before .before .loop .inv .1; met = λ some. absurd (some (c .if1 .taken)) }
 
 pair-requires : tie.Need-pair-requires Inv-loop μ-loop
-pair-requires c κs = let turn = c .before .before .loop .inv in slot-fits (turn .0) (turn .1) (c .if1 .left)
+pair-requires c κs = let turn = c .before .before .loop .inv in slot-on-way (turn .0) (turn .1) (c .if1 .left)
 
 returns-2 : tie.Need-returns-2 Inv-loop μ-loop
 returns-2 c =

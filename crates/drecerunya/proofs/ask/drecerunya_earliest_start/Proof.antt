@@ -1,4 +1,4 @@
--- The answer is the promised one, and it is told.
+-- The answer is the promised one, and it is told. Nothing is assumed.
 use Rattle.told.proofs.Telling.{tells}
 use borrow.Author.Needs.{needs}
 use Rattle.drecerunya.proofs.ask.drecerunya_earliest_start.Statement.{statement}

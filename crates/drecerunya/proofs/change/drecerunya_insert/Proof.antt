@@ -1,4 +1,4 @@
--- The cells and the answer are the promised ones, and the answer is told by its code.
+-- The cells and the answer are the promised ones, and the answer is told by its code. Nothing is assumed.
 use Rattle.told.proofs.Telling.{tells}
 use borrow.Author.Needs.{needs}
 use Rattle.drecerunya.proofs.change.drecerunya_insert.Statement.{statement}

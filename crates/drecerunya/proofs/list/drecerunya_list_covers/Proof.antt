@@ -1,4 +1,4 @@
--- The cells and the answer are the promised ones, and the answer is told.
+-- The cells and the answer are the promised ones, and the answer is told. Nothing is assumed.
 use Rattle.told.proofs.Telling.{tells}
 use borrow.Author.Needs.{needs}
 use Rattle.drecerunya.proofs.list.drecerunya_list_covers.Statement.{statement}

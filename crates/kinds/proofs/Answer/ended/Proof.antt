@@ -1,4 +1,4 @@
--- The code decides: 0 is done, and any other refuses.
+-- The code decides: 0 is done, and any other refuses. Nothing is assumed.
 use Prim.Native.Nat.{ℕ}
 use mathlib.Core.Path.{_≡_}
 use borrow.Author.Tests.{eq-eqb, ne-eqb}

@@ -1,4 +1,4 @@
--- Each case by its clause.
+-- Each case by its clause. Nothing is assumed.
 use borrow.Author.Needs.{needs}
 use Rattle.kinds.specs.Answer.{numbersOf, five}
 use Rattle.kinds.proofs.Answer.numbers.Statement.{statement}

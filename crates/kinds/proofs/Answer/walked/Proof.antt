@@ -1,4 +1,4 @@
--- Each case of the finding.
+-- Each case of the finding. Nothing is assumed.
 use borrow.Author.Needs.{needs}
 use Rattle.kinds.proofs.Answer.walked.Statement.{statement}
 use Rattle.kinds.proofs.Answer.walked.Tie as tie

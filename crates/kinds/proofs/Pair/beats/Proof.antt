@@ -1,4 +1,4 @@
--- The smaller key is that of the pair that beats.
+-- The smaller key is that of the pair that beats. Nothing is assumed: a value's x is of 32 bits.
 use Rattle.kinds.proofs.Order.{beats-by-key}
 use borrow.Author.Needs.{needs}
 use Rattle.kinds.proofs.Pair.beats.Statement.{statement}

@@ -1,4 +1,4 @@
--- The middle is the definition's.
+-- The middle is the definition's. It assumes that the stripe's ends can be added (`Low`).
 use borrow.Author.Needs.{needs}
 use Rattle.kinds.proofs.Stripe.goes_left.Statement.{statement}
 use Rattle.kinds.proofs.Stripe.goes_left.Tie as tie

@@ -1,4 +1,4 @@
--- The bit is the level's.
+-- The bit is the level's. It assumes a level from 1 to 32.
 use borrow.Author.Needs.{needs}
 use Rattle.kinds.proofs.Heights.{bit-of}
 use Rattle.kinds.proofs.Stripe.is_left.Statement.{statement}

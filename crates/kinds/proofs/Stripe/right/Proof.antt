@@ -1,4 +1,4 @@
--- The middle is the part's new end.
+-- The middle is the part's new end. It assumes that the stripe's ends can be added (`Low`).
 use borrow.Author.Needs.{needs}
 use Rattle.kinds.proofs.Stripe.right.Statement.{statement}
 use Rattle.kinds.proofs.Stripe.right.Tie as tie

@@ -1,6 +1,6 @@
--- The test picks the part.
+-- The test picks the part. It assumes that the stripe's ends can be added (`Low`).
 use mathlib.Core.Path.{sym, _∙_}
-use Rattle.kinds.specs.Stripe.{partOf}
+use Rattle.kinds.specs.Heights.{partOf}
 use borrow.Author.Needs.{needs}
 use Rattle.kinds.proofs.Stripe.towards.Statement.{statement}
 use Rattle.kinds.proofs.Stripe.towards.Tie as tie

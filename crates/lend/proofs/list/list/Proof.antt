@@ -1,4 +1,4 @@
--- What the walk lists, the answer says.
+-- What the walk lists, the answer says. It assumes a sound pool.
 use Rattle.lend.proofs.Listed.{listing-gives}
 use borrow.Author.Needs.{needs}
 use Rattle.lend.proofs.list.list.Statement.{statement}

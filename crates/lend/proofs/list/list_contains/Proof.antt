@@ -1,10 +1,10 @@
--- The code of the slots refuses; else the walk lists, with the limits of contains.
+-- The code of the slots refuses; else the walk lists, with the limits of contains. It assumes a sound pool.
 use mathlib.Core.Path.{sym, _∙_}
 use Rattle.plain.specs.Books.{plainListing}
 use Rattle.plain.specs.Strips.{plainContains}
-use Rattle.strip.proofs.Fitting.{slots-fit}
+use Rattle.strip.proofs.Fitting.{slots-small}
 use Rattle.promises.specs.Promises.{listingAsked, listContains}
-use Rattle.promises.proofs.Ways.{slots-refused, slots-right}
+use Rattle.promises.proofs.Ways.{slots-refused, slots-pass}
 use borrow.Author.Needs.{needs}
 use Rattle.lend.proofs.list.list_contains.Statement.{statement}
 use Rattle.lend.proofs.list.list_contains.Tie as tie
@@ -21,7 +21,7 @@ contains-requires : tie.Need-contains-requires
 contains-requires c κs =
     let at-slots-code = c .before in
     let at-entry = at-slots-code .before .before .before in
-    (slots-fit (at-entry .args .u) (at-entry .args .v) (sym (at-slots-code .slots-code .ensures) ∙ c .if1 .left)) .1
+    (slots-small (at-entry .args .u) (at-entry .args .v) (sym (at-slots-code .slots-code .ensures) ∙ c .if1 .left)) .1
 
 returns-2 : tie.Need-returns-2
 unfolding listContains plainContains listingAsked plainListing
@@ -31,7 +31,7 @@ returns-2 c =
     let at-if1 = at-contains .before in
     let at-slots-code = at-if1 .before in
     let at-entry = at-slots-code .before .before .before in
-    slots-right (at-entry .args .u) (at-entry .args .v) (at-slots-code .slots-code .ensures) (at-if1 .if1 .left) (rw (at-contains .contains .ensures) at (at-list .list .ensures))
+    slots-pass (at-entry .args .u) (at-entry .args .v) (at-slots-code .slots-code .ensures) (at-if1 .if1 .left) (rw (at-contains .contains .ensures) at (at-list .list .ensures))
 
 pub list-contains-spec : {M : Type 1} → statement M
 list-contains-spec =

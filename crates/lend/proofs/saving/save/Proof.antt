@@ -1,4 +1,4 @@
--- Each way out is one law.
+-- Each way out is one law of Saved.antt: too few bytes, or the head and the pairs are written. It assumes a sound pool.
 use Rattle.lend.proofs.Saved.{too-short, still-room, all-saved}
 use borrow.Author.Needs.{needs}
 use Rattle.lend.proofs.saving.save.Statement.{statement}

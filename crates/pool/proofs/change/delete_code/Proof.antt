@@ -1,4 +1,4 @@
--- The verdict on the pool decides.
+-- The verdict on the pool decides. Nothing is assumed.
 use Rattle.sound.proofs.Lines.{verdict-sound, entry-passed, entry-ended}
 use Rattle.promises.specs.Promises.{deletion}
 use borrow.Author.Needs.{needs}

@@ -1,4 +1,4 @@
--- The code as an answer.
+-- The code as an answer. Nothing is assumed.
 use borrow.Author.Needs.{needs}
 use Rattle.pool.proofs.change.insert.Statement.{statement}
 use Rattle.pool.proofs.change.insert.Tie as tie

@@ -1,4 +1,4 @@
--- The code as an answer.
+-- The code as an answer. Nothing is assumed.
 use borrow.Author.Needs.{needs}
 use Rattle.strips.proofs.change.close.Statement.{statement}
 use Rattle.strips.proofs.change.close.Tie as tie

@@ -1,4 +1,4 @@
--- The verdict on the pool decides.
+-- The verdict on the pool decides. Nothing is assumed.
 use Rattle.sound.proofs.Lines.{verdict-sound, entry-passed, entry-refused}
 use Rattle.promises.specs.Promises.{listContains}
 use borrow.Author.Needs.{needs}
