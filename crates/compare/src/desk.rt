@@ -119,7 +119,7 @@ fn way_of(kind: u32, i: u32, drawn: u32) -> u8 {
         0000mmmmttttttttyyyywwwwaaaaaaaa\
         0looawweeeeeeeesssssssssssssssss\
         xxxxxxxxxxxxxxxxxxxxxxxxxxxxxxxa\
-        yyyyyyyyyyyyyyyyyyyy0mttsswwwaaa\
+        yyyyyyyyyyyyy0mttttsssswwwwaaaaa\
         eeeeeeeeeeeeeeeeeeeeeeeeeeeeeesw\
         rrrrrrrrrrrrrrrrrrrrrrrrrrrrrrsw\
         llllllllllllllllllllllllllllllll";

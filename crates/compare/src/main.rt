@@ -28,8 +28,7 @@ fn cell_for(desk: &Desk, drawn: u32) -> u32 {
     let left = at(desk, cell, 1);
     let son = pick(left == 0, at(desk, cell, 2), left);
     let is_beaten = (son == u32::MAX) | (son != 0) & (at(desk, son << 2, 1) != u32::MAX);
-    let is_root = (cell % 4 == 0) & (cell / 4 == at(desk, POOL, 1));
-    let is_safe = is_root | (cell % 4 == 1) & !is_beaten;
+    let is_safe = (cell % 4 == 0) & (cell / 4 == at(desk, POOL, 1)) | (cell % 4 == 1) & !is_beaten;
     pick((3 < cell) & is_safe, 0, cell)
 }
 
@@ -60,28 +59,29 @@ fn refuse(desk: &mut Desk, code: u32, turn: u32) {
     count(desk, sub(34, code));
 }
 
-// A kind, of 32 by which the pool grows or shrinks for 64 turns; of the first eight until it is full in phases 1 to 5, or empty in 6 to 8.
+// A kind, of 32 by which the pool grows or shrinks for 64 turns; of the first eight in phases 1 to 4 until it is full, and in 5.
 fn kind_at(desk: &Desk, turn: u32) -> u32 {
     let kinds = b"ddddffffddddffeeeeggbchijklmnopq\
-        eeeeegggeeeeggdddfffbghijklmnopq";
+        eeeeggggeeggggdddfffbchijklmnopq";
     let phase = turn % 8192 / 384;
-    let is_filling = (0 < phase) & (phase < 6);
-    let is_emptying = (5 < phase) & (phase < 9) & (rows(desk) != 0);
-    let row = pick(is_filling, 0, pick(is_emptying, 1, turn / 64 % 2));
-    let is_open = is_filling & !is_full(desk) | is_emptying;
-    let drawn = draw(turn, 0) % 32;
-    let i = row << 5 | pick(is_open, drawn % 8, drawn);
+    let is_filling = (0 < phase) & (phase < 6) & ((phase == 5) | !is_full(desk));
+    let row = pick(is_filling, 0, turn / 64 % 2);
+    let i = row << 5 | below(pick(is_filling, 8, 32), draw(turn, 0));
     (kinds[(i % 64) as usize] % 32) as u32
 }
 
-// The call of a turn. Phases 0 and 9 begin with a way down all the levels, along the powers of 2 from an end of the root's stripe.
+// The call of a turn. Phases 0 and 10 begin with a way down all the levels, along the powers of 2; in 6 to 9 three of four remove a stored pair.
 fn call_at(desk: &Desk, turn: u32) -> Call {
     let k = turn % 8192 % 384;
     let phase = turn % 8192 / 384;
-    if (phase % 9 == 0) & (k < 33) {
+    if (phase % 10 == 0) & (k < 33) {
         let power = pick(k < 32, 1u32 << (k % 32), 0);
         let x = pick(phase == 0, power, u32::MAX ^ power);
         return new_call(INSERT, x, sub(64, k) % 33, 0);
+    }
+    if (5 < phase) & (phase < 10) & (rows(desk) != 0) & (turn % 4 != 0) {
+        let row = below(rows(desk), draw(turn, 8));
+        return new_call(DELETE, x_at(desk, row), y_at(desk, row), 0);
     }
     call_of(desk, kind_at(desk, turn), turn)
 }
@@ -99,6 +99,9 @@ fn run(desk: &mut Desk, turn: u32, left: u32) {
     if turn % 6 == 0 {
         refuse(desk, turn / 6 % 2 + 1, turn);
     }
+    let is_filled = (turn % 8192 == 2304) & is_full(desk);
+    let is_emptied = (turn % 8192 == 3840) & (rows(desk) == 0);
+    count(desk, pick(is_filled, 30, pick(is_emptied, 31, 0)));
     let asked = call_at(desk, turn);
     let back = new_call(asked.kind ^ 1, asked.a, asked.b, asked.c);
     let is_done = one(desk, asked, 0, turn);
@@ -113,10 +116,10 @@ fn run(desk: &mut Desk, turn: u32, left: u32) {
     }
 }
 
-// Pools of each length, and smaller ones again, are set up over anything and have 3,840 turns in ten phases; the longest has two turns.
+// Pools of each length, and smaller ones again, are set up over anything and have 4,224 turns in eleven phases; the longest has two turns.
 fn lives(desk: &mut Desk) {
     let lens = [8, 12, 16, 24, 64, 260, 1024, 4096, 16384];
-    for i in 0..23 {
+    for i in 0..27 {
         let k = pick(i < 9, i, i % 6);
         let n = lens[(k % 9) as usize];
         let turn = (i + 1) << 13;
@@ -124,7 +127,7 @@ fn lives(desk: &mut Desk) {
         one(desk, new_call(SET_UP, 0, 0, 0), 0, turn);
         let is_fresh = copy(desk, POOL, FRESH, n);
         tell(desk, 0, is_fresh, turn);
-        run(desk, turn, pick(k == 8, 2, 3840));
+        run(desk, turn, pick(k == 8, 2, 4224));
     }
 }
 

@@ -85,8 +85,7 @@ pub fn agrees(desk: &Desk, got: Five, kind: u32, code: u32, row: u32, shown: u32
     let bound = pick(is_question, add(shown << 1, 127), 0);
     let most = pick(rows(desk) < bound, rows(desk), bound);
     let is_bounded = (got.visits <= most) & ((got.visits == 0) == (most == 0));
-    let is_pair = (got.x == x) & (got.y == y);
-    (got.code == code) & is_pair & (got.count == shown) & is_bounded
+    (got.code == code) & (got.x == x) & (got.y == y) & (got.count == shown) & is_bounded
 }
 
 // An insertion or a deletion that is done: the rows from its place on move by one.
@@ -104,6 +103,4 @@ pub fn update(desk: &mut Desk, pair: Call, row: u32) {
         copy(desk, add(here, 2), here, rest);
         put(desk, SIZES, 1, sub(n, 1));
     }
-    let empty = pick(rows(desk) == 0, 31, 0);
-    count(desk, pick(is_full(desk), 30, empty));
 }

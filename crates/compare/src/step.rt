@@ -132,8 +132,7 @@ pub fn one(desk: &mut Desk, asked: Call, health: u32, turn: u32) -> bool {
     if is_done & (kind != SET_UP) {
         update(desk, as_pair(asked), found.count);
     }
-    let is_counted = at(desk, POOL, 3) == rows(desk);
-    let is_left = is_done & is_counted | !is_done & is_kept;
+    let is_left = is_done & (at(desk, POOL, 3) == rows(desk)) | !is_done & is_kept;
     count(desk, got.code % 12 + 18);
     tell(desk, kind, is_told & is_left, turn);
     is_done

@@ -8,7 +8,7 @@ abbrev Inv-loop : tie.InvT-loop
 Inv-loop desk₀ lens i₀ desk i = Unit {0}
 
 abbrev μ-loop : tie.MeasureT-loop
-μ-loop desk₀ lens i₀ desk i = 23 - i
+μ-loop desk₀ lens i₀ desk i = 27 - i
 
 pub lives-spec : {M : Type 1} → statement M
 lives-spec =
