@@ -34,7 +34,7 @@ fn cell_for(desk: &Desk, drawn: u32) -> u32 {
 
 // What is put there: an x in the other half of the root's stripe, the largest y, a link to the slot itself, or a bit turned over.
 fn damaged(old: u32, cell: u32, drawn: u32) -> u32 {
-    let turned = old ^ 1u32 << (drawn / 4 % 32);
+    let turned = old ^ 1u32 << (drawn / 134217728 % 32);
     let link = pick(drawn % 4 == 1, cell / 4, turned);
     let y_or_link = pick(cell % 4 == 1, u32::MAX, link);
     let of_slot = pick(cell % 4 == 0, old ^ 2147483648, y_or_link);
@@ -116,7 +116,7 @@ fn run(desk: &mut Desk, turn: u32, left: u32) {
     }
 }
 
-// Pools of each length, and smaller ones again, are set up over anything and have 4,224 turns in eleven phases; the longest has two turns.
+// Pools of each length, and smaller ones again, are set up over anything, checked, and have 4,224 turns in eleven phases; the longest has two turns.
 fn lives(desk: &mut Desk) {
     let lens = [8, 12, 16, 24, 64, 260, 1024, 4096, 16384];
     for i in 0..27 {
@@ -127,6 +127,7 @@ fn lives(desk: &mut Desk) {
         one(desk, new_call(SET_UP, 0, 0, 0), 0, turn);
         let is_fresh = copy(desk, POOL, FRESH, n);
         tell(desk, 0, is_fresh, turn);
+        one(desk, new_call(2, 0, 0, 0), 0, turn);
         run(desk, turn, pick(k == 8, 2, 4224));
     }
 }

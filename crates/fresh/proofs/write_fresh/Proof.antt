@@ -18,10 +18,20 @@ abbrev μ-loop : tie.MeasureT-loop
 μ-loop pool₀ n slot₀ pool slot = n - slot
 
 loop-again : tie.Need-loop-again Inv-loop μ-loop
-loop-again c = (c .before .before .put-free .kept .0 ∙ c .before .before .before .before .before .loop .inv .0, omega (arith, c .before .before .before .before .before .loop .inv .1), omega (arith, c .before .before .before .before .loop-test .taken), turn _ _ _ _ (c .before .before .before .before .loop-test .taken) (c .before .before .put-free .ensures) ∙ c .before .before .before .before .before .loop .inv .3)
+loop-again c =
+    let at-put-free = c .before .before in
+    let at-loop-test = at-put-free .before .before in
+    let at-loop = at-loop-test .before in
+    (at-put-free .put-free .kept .0 ∙ at-loop .loop .inv .0, omega (arith, at-loop .loop .inv .1), omega (arith, at-loop-test .loop-test .taken), turn _ _ _ _ (at-loop-test .loop-test .taken) (at-put-free .put-free .ensures) ∙ at-loop .loop .inv .3)
 
 returns : tie.Need-returns Inv-loop μ-loop
-returns c = last-chained _ _ _ _ (omega (arith, c .before .before .before .before .loop-test .left, c .before .before .before .before .before .loop .inv .2)) (c .before .before .put-free2 .ensures) ∙ c .before .before .before .before .before .loop .inv .3 ∙ whole-chain _ _ (c .before .before .before .before .before .before .before .before .before .before .before .pre) (c .before .before .before .before .before .before .before .before .put-header .ensures)
+returns c =
+    let at-put-free2 = c .before .before in
+    let at-loop-test = at-put-free2 .before .before in
+    let at-loop = at-loop-test .before in
+    let at-put-header = at-loop .before .before .before in
+    let at-entry = at-put-header .before .before .before in
+    last-chained _ _ _ _ (omega (arith, at-loop-test .loop-test .left, at-loop .loop .inv .2)) (at-put-free2 .put-free2 .ensures) ∙ at-loop .loop .inv .3 ∙ whole-chain _ _ (at-entry .pre) (at-put-header .put-header .ensures)
 
 pub write-fresh-spec : {M : Type 1} → statement M
 write-fresh-spec =

@@ -25,7 +25,9 @@ pair-requires : tie.Need-pair-requires Inv-loop μ-loop
 pair-requires c κs = there _ _ _ _ 0 (c .before .loop .inv .0) (c .if1 .left)
 
 goes-left-requires : tie.Need-goes-left-requires Inv-loop μ-loop
-goes-left-requires c κs = c .before .before .before .before .loop .inv .0 .low
+goes-left-requires c κs =
+    let at-loop = c .before .before .before .before in
+    at-loop .loop .inv .0 .low
 
 son-requires : tie.Need-son-requires Inv-loop μ-loop
 son-requires c κs =
@@ -33,7 +35,9 @@ son-requires c κs =
     there _ _ _ _ 0 (at-slot .before .loop .inv .0) (at-slot .if1 .left)
 
 towards-requires : tie.Need-towards-requires Inv-loop μ-loop
-towards-requires c κs = c .before .before .before .before .before .before .loop .inv .0 .low
+towards-requires c κs =
+    let at-loop = c .before .before .before .before .before .before in
+    at-loop .loop .inv .0 .low
 
 sub-remaining : tie.Need-sub-remaining Inv-loop μ-loop
 sub-remaining c =

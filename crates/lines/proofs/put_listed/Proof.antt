@@ -9,17 +9,28 @@ use Rattle.lines.proofs.put_listed.Statement.{statement}
 use Rattle.lines.proofs.put_listed.Tie as tie
 
 put-number-requires-2 : tie.Need-put-number-requires-2
-put-number-requires-2 c κs = room-behind _ _ _ _ _ _ 11 (c .before .before .before .put-number .ensures) (omega (arith, c .before .before .before .before .before .before .before .before .pre))
+put-number-requires-2 c κs =
+    let at-put-number = c .before .before .before in
+    let at-entry = at-put-number .before .before .before .before .before in
+    room-behind _ _ _ _ _ _ 11 (at-put-number .put-number .ensures) (omega (arith, at-entry .pre))
 
 put-number-requires-3 : tie.Need-put-number-requires-3
-put-number-requires-3 c κs = let h = room-behind _ _ _ _ _ _ 22 (c .before .before .before .before .before .before .before .put-number .ensures) (omega (arith, c .before .before .before .before .before .before .before .before .before .before .before .before .pre)) in room-behind _ _ _ _ _ _ 11 (c .before .before .before .put-number2 .ensures) (omega (arith, h))
+put-number-requires-3 c κs =
+    let at-put-number2 = c .before .before .before in
+    let at-put-number = at-put-number2 .before .before .before .before in
+    let at-entry = at-put-number .before .before .before .before .before in
+    let h = room-behind _ _ _ _ _ _ 22 (at-put-number .put-number .ensures) (omega (arith, at-entry .pre)) in room-behind _ _ _ _ _ _ 11 (at-put-number2 .put-number2 .ensures) (omega (arith, h))
 
 put-matches-requires : tie.Need-put-matches-requires
 put-matches-requires c κs =
-    let k = 33 * (length (c .before .before .before .before .before .before .before .before .before .before .before .before .before .before .before .before .args .room .now) / 2) in
-    let g = room-behind _ _ _ _ _ _ (22 + k) (c .before .before .before .before .before .before .before .before .before .before .before .put-number .ensures) (omega (arith, c .before .before .before .before .before .before .before .before .before .before .before .before .before .before .before .before .pre)) in
-    let h = room-behind _ _ _ _ _ _ (11 + k) (c .before .before .before .before .before .before .before .put-number2 .ensures) (omega (arith, g)) in
-    room-behind _ _ _ _ _ _ k (c .before .before .before .put-number3 .ensures) (omega (arith, h))
+    let at-put-number3 = c .before .before .before in
+    let at-put-number2 = at-put-number3 .before .before .before .before in
+    let at-put-number = at-put-number2 .before .before .before .before in
+    let at-entry = at-put-number .before .before .before .before .before in
+    let k = 33 * (length (at-entry .args .room .now) / 2) in
+    let g = room-behind _ _ _ _ _ _ (22 + k) (at-put-number .put-number .ensures) (omega (arith, at-entry .pre)) in
+    let h = room-behind _ _ _ _ _ _ (11 + k) (at-put-number2 .put-number2 .ensures) (omega (arith, g)) in
+    room-behind _ _ _ _ _ _ k (at-put-number3 .put-number3 .ensures) (omega (arith, h))
 
 returns : tie.Need-returns
 returns c =

@@ -63,7 +63,9 @@ list-at-returns t c =
     list-stop _ _ _ _ _ _ _ _ _ _ (at-entry .pre .1 .0) (at-entry .pre .1 .2) _ (at-pair .pair .ensures) (c .if1 .taken)
 
 list-at-list-own-requires : (t : ℕ) → list-at-lts.Need-list-own-requires (list-at-calls t) (list-at-at t) list-at.Post
-list-at-list-own-requires t c κs = c .before .before .before .before .before .before .before .before .before .pre .1 .2
+list-at-list-own-requires t c κs =
+    let at-entry = c .before .before .before .before .before .before .before .before .before in
+    at-entry .pre .1 .2
 
 list-at-returns-2 : (t : ℕ) → list-at-lts.Need-returns-2 (list-at-calls t) (list-at-at t) list-at.Post
 list-at-returns-2 t c =
@@ -75,19 +77,34 @@ list-at-returns-2 t c =
     list-own-full _ _ _ _ _ _ _ _ _ _ (at-entry .pre .1 .0) (at-entry .pre .1 .2) _ (at-pair .pair .ensures) (at-if1 .if1 .left) _ (at-room-of .room-of .ensures) _ _ (at-list-own .list-own .ensures) (c .if2 .taken)
 
 list-at-left-requires : (t : ℕ) → list-at-lts.Need-left-requires (list-at-calls t) (list-at-at t) list-at.Post
-list-at-left-requires t c κs = there _ _ _ _ _ (c .before .before .before .before .before .before .before .before .before .before .before .before .before .pre .1 .0) (c .before .before .before .before .before .before .before .before .before .before .before .before .before .pre .1 .1)
+list-at-left-requires t c κs =
+    let at-entry = c .before .before .before .before .before .before .before .before .before .before .before .before .before in
+    there _ _ _ _ _ (at-entry .pre .1 .0) (at-entry .pre .1 .1)
 
 list-at-right-requires : (t : ℕ) → list-at-lts.Need-right-requires (list-at-calls t) (list-at-at t) list-at.Post
-list-at-right-requires t c κs = there _ _ _ _ _ (c .before .before .before .before .before .before .before .before .before .before .before .before .before .before .pre .1 .0) (c .before .before .before .before .before .before .before .before .before .before .before .before .before .before .pre .1 .1)
+list-at-right-requires t c κs =
+    let at-entry = c .before .before .before .before .before .before .before .before .before .before .before .before .before .before in
+    there _ _ _ _ _ (at-entry .pre .1 .0) (at-entry .pre .1 .1)
 
 list-at-goes-left-requires : (t : ℕ) → list-at-lts.Need-goes-left-requires (list-at-calls t) (list-at-at t) list-at.Post
-list-at-goes-left-requires t c κs = c .before .before .before .before .before .before .before .before .before .before .before .before .before .before .before .before .pre .1 .1 .low
+list-at-goes-left-requires t c κs =
+    let at-entry = c .before .before .before .before .before .before .before .before .before .before .before .before .before .before .before .before in
+    at-entry .pre .1 .1 .low
 
 list-at-left-requires-2 : (t : ℕ) → list-at-lts.Need-left-requires-2 (list-at-calls t) (list-at-at t) list-at.Post
-list-at-left-requires-2 t c κs = c .before .before .before .before .before .before .before .before .before .before .before .before .before .before .before .before .before .pre .1 .1 .low
+list-at-left-requires-2 t c κs =
+    let at-entry = c .before .before .before .before .before .before .before .before .before .before .before .before .before .before .before .before .before in
+    at-entry .pre .1 .1 .low
 
 list-at-list-son-requires : (t : ℕ) → list-at-lts.Need-list-son-requires (list-at-calls t) (list-at-at t) list-at.Post
-list-at-list-son-requires t c κs = (omega (arith, c .before .before .before .before .before .before .before .before .before .before .before .before .before .before .before .before .before .before .before .pre .0), (asked-left _ _ _ _ _ (c .before .before .before .before .before .before .before .before .before .before .before .before .before .before .before .before .before .before .before .pre .1 .0) (c .before .before .before .before .before .before .before .before .before .before .before .before .before .before .before .before .before .before .before .pre .1 .1) _ _ _ (c .before .before .before .before .before .left .ensures) (c .before .left2 .ensures) (omega arith), still-fits _ _ _ _ _ (c .before .before .before .before .before .before .before .before .before .list-own .ensures) _ (c .before .before .before .before .before .before .before .before .before .before .before .room-of .ensures) (c .before .before .before .before .before .before .if2 .left)))
+list-at-list-son-requires t c κs =
+    let at-left2 = c .before in
+    let at-left = at-left2 .before .before .before .before in
+    let at-if2 = at-left .before in
+    let at-list-own = at-if2 .before .before .before in
+    let at-room-of = at-list-own .before .before in
+    let at-entry = at-room-of .before .before .before .before .before .before .before .before in
+    (omega (arith, at-entry .pre .0), (asked-left _ _ _ _ _ (at-entry .pre .1 .0) (at-entry .pre .1 .1) _ _ _ (at-left .left .ensures) (at-left2 .left2 .ensures) (omega arith), still-fits _ _ _ _ _ (at-list-own .list-own .ensures) _ (at-room-of .room-of .ensures) (at-if2 .if2 .left)))
 
 list-at-returns-3 : (t : ℕ) → list-at-lts.Need-returns-3 (list-at-calls t) (list-at-at t) list-at.Post
 list-at-returns-3 t c =
@@ -104,16 +121,38 @@ list-at-returns-3 t c =
     list-left-full _ _ _ _ _ _ _ _ _ _ (at-entry .pre .1 .0) (at-entry .pre .1 .2) _ (at-pair .pair .ensures) (at-if1 .if1 .left) _ (at-room-of .room-of .ensures) _ _ (at-list-own .list-own .ensures) (at-if2 .if2 .left) _ _ _ (at-left .left .ensures) (at-goes-left .goes-left .ensures) (at-left2 .left2 .ensures) _ _ _ (at-list-son .list-son .ensures) (c .if3 .taken)
 
 list-at-goes-left-requires-2 : (t : ℕ) → list-at-lts.Need-goes-left-requires-2 (list-at-calls t) (list-at-at t) list-at.Post
-list-at-goes-left-requires-2 t c κs = c .before .before .before .before .before .before .before .before .before .before .before .before .before .before .before .before .before .before .before .before .before .before .before .before .pre .1 .1 .low
+list-at-goes-left-requires-2 t c κs =
+    let at-entry = c .before .before .before .before .before .before .before .before .before .before .before .before .before .before .before .before .before .before .before .before .before .before .before .before in
+    at-entry .pre .1 .1 .low
 
 list-at-right-requires-2 : (t : ℕ) → list-at-lts.Need-right-requires-2 (list-at-calls t) (list-at-at t) list-at.Post
-list-at-right-requires-2 t c κs = c .before .before .before .before .before .before .before .before .before .before .before .before .before .before .before .before .before .before .before .before .before .before .before .before .before .pre .1 .1 .low
+list-at-right-requires-2 t c κs =
+    let at-entry = c .before .before .before .before .before .before .before .before .before .before .before .before .before .before .before .before .before .before .before .before .before .before .before .before .before in
+    at-entry .pre .1 .1 .low
 
 list-at-list-son-requires-2 : (t : ℕ) → list-at-lts.Need-list-son-requires-2 (list-at-calls t) (list-at-at t) list-at.Post
-list-at-list-son-requires-2 t c κs = (omega (arith, c .before .before .before .before .before .before .before .before .before .before .before .before .before .before .before .before .before .before .before .before .before .before .before .before .before .before .before .pre .0), (asked-right _ _ _ _ _ (c .before .before .before .before .before .before .before .before .before .before .before .before .before .before .before .before .before .before .before .before .before .before .before .before .before .before .before .pre .1 .0) (c .before .before .before .before .before .before .before .before .before .before .before .before .before .before .before .before .before .before .before .before .before .before .before .before .before .before .before .pre .1 .1) _ _ _ (c .before .before .before .before .before .before .before .before .before .before .before .before .right .ensures) (c .before .right2 .ensures) (list-room _ _ _ _ _ _ _ _ _ _ (c .before .before .before .before .before .before .before .before .before .before .before .before .before .before .before .before .before .before .before .before .before .before .before .before .before .before .before .pre .1 .0) (c .before .before .before .before .before .before .before .before .before .before .before .before .before .before .before .before .before .before .before .before .before .before .before .before .before .before .before .pre .1 .2) _ (c .before .before .before .before .before .before .before .before .before .before .before .before .before .before .before .before .before .before .before .before .before .before .before .pair .ensures) (c .before .before .before .before .before .before .before .before .before .before .before .before .before .before .before .before .before .before .before .before .before .if1 .left) _ (c .before .before .before .before .before .before .before .before .before .before .before .before .before .before .before .before .before .before .before .room-of .ensures) _ _ (c .before .before .before .before .before .before .before .before .before .before .before .before .before .before .before .before .before .list-own .ensures) (c .before .before .before .before .before .before .before .before .before .before .before .before .before .before .if2 .left) _ _ _ (c .before .before .before .before .before .before .before .before .before .before .before .before .before .left .ensures) (c .before .before .before .before .before .before .before .before .before .before .goes-left .ensures) (c .before .before .before .before .before .before .before .before .before .left2 .ensures) _ _ _ (c .before .before .before .before .before .before .before .list-son .ensures)), list-left-fits _ _ _ _ _ _ _ _ _ _ (c .before .before .before .before .before .before .before .before .before .before .before .before .before .before .before .before .before .before .before .before .before .before .before .before .before .before .before .pre .1 .0) (c .before .before .before .before .before .before .before .before .before .before .before .before .before .before .before .before .before .before .before .before .before .before .before .before .before .before .before .pre .1 .2) _ (c .before .before .before .before .before .before .before .before .before .before .before .before .before .before .before .before .before .before .before .before .before .before .before .pair .ensures) (c .before .before .before .before .before .before .before .before .before .before .before .before .before .before .before .before .before .before .before .before .before .if1 .left) _ (c .before .before .before .before .before .before .before .before .before .before .before .before .before .before .before .before .before .before .before .room-of .ensures) _ _ (c .before .before .before .before .before .before .before .before .before .before .before .before .before .before .before .before .before .list-own .ensures) (c .before .before .before .before .before .before .before .before .before .before .before .before .before .before .if2 .left) _ _ _ (c .before .before .before .before .before .before .before .before .before .before .before .before .before .left .ensures) (c .before .before .before .before .before .before .before .before .before .before .goes-left .ensures) (c .before .before .before .before .before .before .before .before .before .left2 .ensures) _ _ _ (c .before .before .before .before .before .before .before .list-son .ensures) (c .before .before .before .before .if3 .left)))
+list-at-list-son-requires-2 t c κs =
+    let at-right2 = c .before in
+    let at-if3 = at-right2 .before .before .before in
+    let at-list-son = at-if3 .before .before .before in
+    let at-left2 = at-list-son .before .before in
+    let at-goes-left = at-left2 .before in
+    let at-right = at-goes-left .before .before in
+    let at-left = at-right .before in
+    let at-if2 = at-left .before in
+    let at-list-own = at-if2 .before .before .before in
+    let at-room-of = at-list-own .before .before in
+    let at-if1 = at-room-of .before .before in
+    let at-pair = at-if1 .before .before in
+    let at-entry = at-pair .before .before .before .before in
+    (omega (arith, at-entry .pre .0), (asked-right _ _ _ _ _ (at-entry .pre .1 .0) (at-entry .pre .1 .1) _ _ _ (at-right .right .ensures) (at-right2 .right2 .ensures) (list-room _ _ _ _ _ _ _ _ _ _ (at-entry .pre .1 .0) (at-entry .pre .1 .2) _ (at-pair .pair .ensures) (at-if1 .if1 .left) _ (at-room-of .room-of .ensures) _ _ (at-list-own .list-own .ensures) (at-if2 .if2 .left) _ _ _ (at-left .left .ensures) (at-goes-left .goes-left .ensures) (at-left2 .left2 .ensures) _ _ _ (at-list-son .list-son .ensures)), list-left-fits _ _ _ _ _ _ _ _ _ _ (at-entry .pre .1 .0) (at-entry .pre .1 .2) _ (at-pair .pair .ensures) (at-if1 .if1 .left) _ (at-room-of .room-of .ensures) _ _ (at-list-own .list-own .ensures) (at-if2 .if2 .left) _ _ _ (at-left .left .ensures) (at-goes-left .goes-left .ensures) (at-left2 .left2 .ensures) _ _ _ (at-list-son .list-son .ensures) (at-if3 .if3 .left)))
 
 list-at-same-length-3 : (t : ℕ) → list-at-lts.Need-same-length-3 (list-at-calls t) (list-at-at t) list-at.Post
-list-at-same-length-3 t c = omega (arith, c .before .before .list-son2 .kept .1 .0, c .before .before .before .before .before .before .before .before .before .before .list-son .kept .1 .0, c .before .before .before .before .before .before .before .before .before .before .before .before .before .before .before .before .before .before .before .before .list-own .kept .0)
+list-at-same-length-3 t c =
+    let at-list-son2 = c .before .before in
+    let at-list-son = at-list-son2 .before .before .before .before .before .before .before .before in
+    let at-list-own = at-list-son .before .before .before .before .before .before .before .before .before .before in
+    omega (arith, at-list-son2 .list-son2 .kept .1 .0, at-list-son .list-son .kept .1 .0, at-list-own .list-own .kept .0)
 
 list-at-returns-4 : (t : ℕ) → list-at-lts.Need-returns-4 (list-at-calls t) (list-at-at t) list-at.Post
 list-at-returns-4 t c =
@@ -144,12 +183,17 @@ list-son-returns t c =
 list-son-sub-list-at :
     (t : ℕ) →
     list-son-lts.Need-sub-list-at (list-son-calls t) (list-son-at t) list-son.Post
-list-son-sub-list-at t c = let d = deep _ _ _ _ _ (c .before .before .before .before .before .pre .1 .0) (c .before .before .if1 .left) in omega arith
+list-son-sub-list-at t c =
+    let at-if1 = c .before .before in
+    let at-entry = at-if1 .before .before .before in
+    let d = deep _ _ _ _ _ (at-entry .pre .1 .0) (at-if1 .if1 .left) in omega arith
 
 list-son-list-at-requires : (t : ℕ) → list-son-lts.Need-list-at-requires (list-son-calls t) (list-son-at t) list-son.Post
 list-son-list-at-requires t c κs =
-    let d = deep _ _ _ _ _ (c .before .before .before .before .before .before .pre .1 .0) (c .before .before .before .if1 .left) in
-    (omega (arith, c .before .before .before .before .before .before .pre .0), (omega (arith, c .before .before .before .if1 .left), asked-here _ _ _ _ _ (c .before .before .before .before .before .before .pre .1 .0) (c .before .before .before .if1 .left), c .before .before .before .before .before .before .pre .1 .1))
+    let at-if1 = c .before .before .before in
+    let at-entry = at-if1 .before .before .before in
+    let d = deep _ _ _ _ _ (at-entry .pre .1 .0) (at-if1 .if1 .left) in
+    (omega (arith, at-entry .pre .0), (omega (arith, at-if1 .if1 .left), asked-here _ _ _ _ _ (at-entry .pre .1 .0) (at-if1 .if1 .left), at-entry .pre .1 .1))
 
 list-son-returns-2 :
     (t : ℕ) →

@@ -10,16 +10,28 @@ put-front-requires : tie.Need-put-front-requires
 put-front-requires c κs = omega (arith, c .before .before .pre)
 
 slice-write-text : tie.Need-slice-write-text
-slice-write-text c = let h = two-left _ _ _ _ _ _ (c .before .before .before .put-front .ensures) (omega (arith, c .before .before .before .before .before .before .pre)) in omega (arith, h)
+slice-write-text c =
+    let at-put-front = c .before .before .before in
+    let at-entry = at-put-front .before .before .before in
+    let h = two-left _ _ _ _ _ _ (at-put-front .put-front .ensures) (omega (arith, at-entry .pre)) in omega (arith, h)
 
 add-text : tie.Need-add-text
-add-text c = let h = two-left _ _ _ _ _ _ (c .before .before .before .put-front .ensures) (omega (arith, c .before .before .before .before .before .before .pre)) in search needs
+add-text c =
+    let at-put-front = c .before .before .before in
+    let at-entry = at-put-front .before .before .before in
+    let h = two-left _ _ _ _ _ _ (at-put-front .put-front .ensures) (omega (arith, at-entry .pre)) in search needs
 
 slice-write-text-2 : tie.Need-slice-write-text-2
-slice-write-text-2 c = let h = two-left _ _ _ _ _ _ (c .before .before .before .put-front .ensures) (omega (arith, c .before .before .before .before .before .before .pre)) in simp length-set (omega (arith, h))
+slice-write-text-2 c =
+    let at-put-front = c .before .before .before in
+    let at-entry = at-put-front .before .before .before in
+    let h = two-left _ _ _ _ _ _ (at-put-front .put-front .ensures) (omega (arith, at-entry .pre)) in simp length-set (omega (arith, h))
 
 add-result : tie.Need-add-result
-add-result c = let h = two-left _ _ _ _ _ _ (c .before .before .before .put-front .ensures) (omega (arith, c .before .before .before .before .before .before .pre)) in search needs
+add-result c =
+    let at-put-front = c .before .before .before in
+    let at-entry = at-put-front .before .before .before in
+    let h = two-left _ _ _ _ _ _ (at-put-front .put-front .ensures) (omega (arith, at-entry .pre)) in search needs
 
 returns : tie.Need-returns
 returns c =
