@@ -10,15 +10,15 @@ use lib.ListN.{getD}
 use lib.Seq.{set-getD}
 use Rattle.kinds.specs.declared.Pair.{Pair}
 use Rattle.kinds.specs.Pairs.{beats}
-use Rattle.kinds.specs.Stripe.{Stripe, In}
-use Rattle.kinds.specs.Heights.{stripeAt}
+use Rattle.stripes.specs.Stripe.{Stripe, In}
+use Rattle.stripes.specs.Heights.{stripeAt}
 use Rattle.trees.specs.Tree.{Tree, All, Under, Well, itself}
 use Rattle.trees.specs.Standing.{Stands, New}
 use Rattle.trees.specs.Changes.{goDown}
 use Rattle.pools.specs.Cells.{perSlot, freeOf, pairAt, rightAt, putPair}
 use Rattle.pools.specs.Links.{Fits, linkCell}
 use Rattle.kinds.proofs.Tests.{on}
-use Rattle.kinds.proofs.Heights.{in-at, same-at}
+use Rattle.stripes.proofs.Heights.{in-at, same-at}
 use Rattle.trees.proofs.Trees.{under-new}
 use Rattle.trees.proofs.GoDown.{down-view}
 use Rattle.pools.proofs.Leads.{back, tree-none, tree-fork, leads-fits}

@@ -7,9 +7,9 @@ use native.Mathlib.Omega.{arith}
 use lib.ListN.{set}
 use Rattle.kinds.specs.declared.Pair.{Pair}
 use Rattle.pools.specs.Cells.{countOf}
-use Rattle.kinds.specs.Stripe.{lowLevels}
+use Rattle.stripes.specs.Stripe.{lowLevels}
 use Rattle.pools.specs.Laid.{inserted}
-use Rattle.kinds.proofs.Heights.{root-at}
+use Rattle.stripes.proofs.Heights.{root-at}
 use Rattle.pools.proofs.Decided.{sound-well, sound-tree}
 use Rattle.pools.proofs.Agreement.{leads-slot}
 use Rattle.pools.proofs.Inserted.{grown, free-first, taken-out, inserted-one}

@@ -7,8 +7,8 @@ use mathlib.Core.List.{List}
 use lib.ListN.{length, set}
 use Rattle.kinds.specs.declared.Pair.{Pair}
 use Rattle.kinds.specs.Pairs.{beats}
-use Rattle.kinds.specs.Stripe.{lowLevels}
-use Rattle.kinds.specs.Heights.{stripeAt}
+use Rattle.stripes.specs.Stripe.{lowLevels}
+use Rattle.stripes.specs.Heights.{stripeAt}
 use Rattle.trees.specs.Tree.{Tree, Well, itself}
 use Rattle.trees.specs.Standing.{Stands, New}
 use Rattle.trees.specs.Changes.{goDown}

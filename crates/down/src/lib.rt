@@ -1,6 +1,6 @@
 // Insertion: x is searched for, and a pair whose x is new goes down from the root.
 use kinds::Pair;
-use kinds::Stripe;
+use stripes::Stripe;
 ghost use mathlib.Core.Path.{_≡_};
 ghost use Rattle.pools.specs.Cells.{stored};
 ghost use Rattle.pools.specs.Links.{Fits};

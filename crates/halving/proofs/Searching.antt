@@ -6,14 +6,14 @@ use mathlib.Core.Bool.{Bool, true, false, cond}
 use mathlib.Core.List.{List}
 use lib.Dec.{ltb}
 use borrow.Author.Tests.{eq-eqb, ne-eqb}
-use Rattle.kinds.specs.Stripe.{Stripe, middle, leftPart, rightPart}
-use Rattle.kinds.specs.Heights.{partOf}
+use Rattle.stripes.specs.Stripe.{Stripe, middle, leftPart, rightPart}
+use Rattle.stripes.specs.Heights.{partOf}
 use Rattle.trees.specs.Changes.{met}
 use Rattle.pools.specs.Cells.{pairAt, leftAt, rightAt, treeAt}
 use Rattle.pools.specs.Links.{Fits, sonAt}
 use Rattle.trees.specs.Tree.{itself}
 use Rattle.pools.specs.Sound.{Leads}
-use Rattle.kinds.proofs.Stripes.{low-part}
+use Rattle.stripes.proofs.Stripes.{low-part}
 use Rattle.pools.proofs.Leads.{back, tree-none, tree-fork, leads-deep, leads-fits, leads-son}
 use Rattle.halving.specs.Sought.{Sought}
 

@@ -1,9 +1,9 @@
 // The search for x below a slot, by halving the stripe that it is in.
-use kinds::Stripe;
+use stripes::Stripe;
 ghost use mathlib.Core.Path.{_≡_};
 ghost use Rattle.trees.specs.Changes.{met};
 ghost use Rattle.pools.specs.Cells.{treeAt};
-ghost use Rattle.kinds.specs.Shape.{stripeOf};
+ghost use Rattle.stripes.specs.Shape.{stripeOf};
 ghost use Rattle.trees.specs.Tree.{itself};
 ghost use Rattle.halving.specs.Sought.{Sought};
 

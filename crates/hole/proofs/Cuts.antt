@@ -9,13 +9,13 @@ use lib.ListN.{getD}
 use borrow.Author.Tests.{eq-eqb, ne-eqb}
 use Rattle.kinds.specs.declared.Pair.{Pair}
 use Rattle.kinds.specs.Pairs.{beats}
-use Rattle.kinds.specs.Stripe.{rootStripe}
-use Rattle.kinds.specs.Heights.{stripeAt}
+use Rattle.stripes.specs.Stripe.{rootStripe}
+use Rattle.stripes.specs.Heights.{stripeAt}
 use Rattle.trees.specs.Tree.{Tree, none, fork, itself}
 use Rattle.trees.specs.Changes.{Cut, fill, takeOut}
 use Rattle.pools.specs.Cells.{pairAt}
 use Rattle.pools.specs.Sound.{Sound}
-use Rattle.kinds.proofs.Heights.{root-at}
+use Rattle.stripes.proofs.Heights.{root-at}
 use Rattle.pools.proofs.Leads.{tree-fork}
 use Rattle.way.specs.Way.{treeThere, OnTheWay, root, on, WayEnds}
 use Rattle.way.proofs.Sides.{forkOn, sonTree, sideOf, part-side}

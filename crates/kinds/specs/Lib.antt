@@ -1,8 +1,6 @@
--- The shared types' meaning: pairs and stripes (Pairs, Stripe), an answer and its codes (Codes, Answer), what a call promises and how it refuses (Promise).
--- Heights, Making, Shape and Placed tie the code to these.
+-- The shared types' meaning: pairs (Pairs), an answer and its codes (Codes, Answer), what a call promises and how it refuses (Promise).
+-- Making, Shape and Placed tie the code to these.
 pub mod Pairs
-pub mod Stripe
-pub mod Heights
 pub mod Codes
 pub mod Answer
 pub mod Making

@@ -1,13 +1,7 @@
--- How the code holds a stripe, and a pair to be compared.
+-- How the code holds a pair to be compared.
 use Prim.Native.Nat.{ℕ, _+_, _*_, _<_}
 use mathlib.Core.Path.{_≡_}
 use Rattle.kinds.specs.declared.Pair.{Pair}
-use Rattle.kinds.specs.declared.Stripe.{Stripe as Held}
-use Rattle.kinds.specs.Stripe.{Stripe}
-
--- the stripe that a value of the code's type stands for
-abbrev pub stripeOf : Held → Stripe
-stripeOf s = record { lower = s .lower; upper = s .upper }
 
 -- the y and behind it the x, as one number
 abbrev pub keyOf : Pair → ℕ

@@ -8,7 +8,7 @@ use Rattle.kinds.specs.declared.Answer.{Answer}
 use Rattle.kinds.specs.declared.Limits.{Limits}
 use Rattle.kinds.specs.Making.{listedBy}
 use Rattle.kinds.specs.Promise.{Gives}
-use Rattle.kinds.specs.Stripe.{rootStripe}
+use Rattle.stripes.specs.Stripe.{rootStripe}
 use Rattle.kinds.proofs.Tables.{gives}
 use Rattle.plain.specs.Books.{plainListing}
 use Rattle.plain.specs.Plain.{matches, those}

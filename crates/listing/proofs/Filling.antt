@@ -10,7 +10,7 @@ use lib.Seq.{sets, sets-eq}
 use Rattle.kinds.specs.declared.Limits.{Limits}
 use Rattle.kinds.specs.declared.Pair.{Pair}
 use Rattle.plain.specs.Plain.{matches}
-use Rattle.kinds.specs.Stripe.{Stripe, middle, leftPart, rightPart}
+use Rattle.stripes.specs.Stripe.{Stripe, middle, leftPart, rightPart}
 use Rattle.trees.specs.Tree.{Tree, none, fork}
 use Rattle.walks.specs.Walks.{Listed, listed, andThen, listOwn, listing, roomOf, flat, written}
 use Rattle.kinds.proofs.Tests.{on, clash}

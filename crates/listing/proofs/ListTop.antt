@@ -9,7 +9,7 @@ use Rattle.kinds.specs.declared.Limits.{Limits}
 use Rattle.pools.specs.Cells.{rootOf, treeAt}
 use Rattle.plain.specs.Plain.{limits}
 use Rattle.pools.specs.Sound.{Sound}
-use Rattle.kinds.specs.Stripe.{allLevels, Stripe, rootStripe}
+use Rattle.stripes.specs.Stripe.{allLevels, Stripe, rootStripe}
 use Rattle.walks.specs.Walks.{Listed, listing, roomOf}
 use Rattle.walks.proofs.Sizes.{listing-size}
 use Rattle.listing.specs.declared.Listing.{Listing}

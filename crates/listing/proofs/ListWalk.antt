@@ -11,7 +11,7 @@ use Rattle.kinds.specs.declared.Limits.{Limits}
 use Rattle.kinds.specs.declared.Pair.{Pair}
 use Rattle.pools.specs.Cells.{pairAt, leftAt, rightAt, treeAt}
 use Rattle.plain.specs.Plain.{limits, inRange, matches}
-use Rattle.kinds.specs.Stripe.{Stripe, middle, leftPart, rightPart}
+use Rattle.stripes.specs.Stripe.{Stripe, middle, leftPart, rightPart}
 use Rattle.trees.specs.Tree.{size}
 use Rattle.walks.specs.Walks.{Listed, listed, andThen, listOwn, listing, roomOf}
 use Rattle.kinds.proofs.Tests.{on}

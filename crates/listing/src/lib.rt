@@ -1,16 +1,16 @@
 // The listing over a sound pool: the walk counts the matches met so far, which is the place of the next one.
 use kinds::Pair;
-use kinds::Stripe;
 use questions::in_range;
+use stripes::Stripe;
 ghost use mathlib.Core.Path.{_≡_};
 ghost use mathlib.Core.Bool.{false, cond};
 ghost use mathlib.Core.List.{[]};
 ghost use Prim.Native.Nat.{suc, _-_, _≤_};
 ghost use Rattle.pools.specs.Cells.{rootOf, treeAt};
 ghost use Rattle.plain.specs.Plain.{limits, inRange};
-ghost use Rattle.kinds.specs.Shape.{stripeOf};
+ghost use Rattle.stripes.specs.Shape.{stripeOf};
 ghost use Rattle.pools.specs.Sound.{Sound};
-ghost use Rattle.kinds.specs.Stripe.{allLevels, rootStripe};
+ghost use Rattle.stripes.specs.Stripe.{allLevels, rootStripe};
 ghost use Rattle.walks.specs.Walks.{listed, listOwn, listing, roomOf};
 ghost use Rattle.questions.specs.Walking.{Walkable};
 ghost use Rattle.listing.specs.Listing.{Put, Lists, Lent};

@@ -13,15 +13,15 @@ use Rattle.kinds.specs.declared.Walked.{Walked}
 use Rattle.pools.specs.Cells.{pairAt, leftAt, rightAt, treeAt}
 use Rattle.plain.specs.Plain.{inRange}
 use Rattle.pools.specs.Sound.{Leads}
-use Rattle.kinds.specs.Stripe.{Stripe, middle, leftPart, rightPart}
-use Rattle.kinds.specs.Heights.{Low}
+use Rattle.stripes.specs.Stripe.{Stripe, middle, leftPart, rightPart}
+use Rattle.stripes.specs.Heights.{Low}
 use Rattle.trees.specs.Tree.{none, size}
 use Rattle.walks.specs.Walks.{seen, ask, smallestY}
 use Rattle.plain.proofs.Closest.{closest-nothing}
 use Rattle.kinds.proofs.Tests.{on, clash}
 use Rattle.pools.proofs.Leads.{back, tree-fork, leads-deep}
 use Rattle.walks.proofs.Sizes.{smallestY-size}
-use Rattle.kinds.proofs.Stripes.{low-left, low-right}
+use Rattle.stripes.proofs.Stripes.{low-left, low-right}
 use Rattle.questions.specs.Walking.{foundAt, Some, Walkable, Made}
 use Rattle.questions.proofs.Finding.{not-lt, no-slot, found-none, found-some}
 use Rattle.questions.proofs.Places.{some, there, size-here, asked-left, asked-right}

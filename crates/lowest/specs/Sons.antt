@@ -9,8 +9,8 @@ use Rattle.kinds.specs.declared.Walked.{Walked}
 use Rattle.pools.specs.Cells.{treeAt}
 use Rattle.plain.specs.Plain.{closest}
 use Rattle.pools.specs.Sound.{Leads}
-use Rattle.kinds.specs.Stripe.{Stripe}
-use Rattle.kinds.specs.Heights.{Low}
+use Rattle.stripes.specs.Stripe.{Stripe}
+use Rattle.stripes.specs.Heights.{Low}
 use Rattle.trees.specs.Tree.{size}
 use Rattle.walks.specs.Walks.{seen}
 use Rattle.questions.specs.Walking.{foundAt, Some}

@@ -1,16 +1,16 @@
 // Smallest y over a sound pool.
 use kinds::Finding;
-use kinds::Stripe;
 use kinds::Walked;
 use questions::found_at;
 use questions::in_range;
+use stripes::Stripe;
 ghost use mathlib.Core.Path.{_≡_};
 ghost use Prim.Native.Nat.{suc, _≤_};
 ghost use lib.Dec.{ltb, leb};
 ghost use Rattle.pools.specs.Cells.{rootOf, treeAt};
-ghost use Rattle.kinds.specs.Shape.{stripeOf};
+ghost use Rattle.stripes.specs.Shape.{stripeOf};
 ghost use Rattle.pools.specs.Sound.{Sound};
-ghost use Rattle.kinds.specs.Stripe.{allLevels, rootStripe, middle, leftPart, rightPart};
+ghost use Rattle.stripes.specs.Stripe.{allLevels, rootStripe, middle, leftPart, rightPart};
 ghost use Rattle.walks.specs.Walks.{smallestY, ask};
 ghost use Rattle.questions.specs.Walking.{Some, Walkable, Made};
 ghost use Rattle.lowest.specs.Sons.{Lower, asks, lowerOf, Asked-sons};

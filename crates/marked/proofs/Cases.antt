@@ -14,7 +14,7 @@ use Rattle.kinds.specs.Pairs.{beats}
 use Rattle.plain.specs.Plain.{smallestXOf, largestXOf, smallestYOf, hasX, has}
 use Rattle.kinds.specs.Promise.{Line, byLines, given}
 use Rattle.kinds.proofs.Tables.{refused-by}
-use Rattle.kinds.specs.Stripe as stripe
+use Rattle.stripes.specs.Stripe as stripe
 use Rattle.pools.specs.Test.{isPool, slotFine, alone, fine, below, rootFine, freeFine, chainFine, restFine, isSound}
 use Rattle.walks.specs.Walks.{smallestX, largestX, smallestY, listing}
 use Rattle.pools.proofs.Decided.{pool-true}

@@ -14,7 +14,7 @@ use Rattle.pools.specs.Laid.{lay, inserted, deleted}
 use Rattle.kinds.specs.Pairs.{beats}
 use Rattle.plain.specs.Plain.{smallestXOf, largestXOf, smallestYOf, hasX, has}
 use Rattle.kinds.specs.Promise.{byLines}
-use Rattle.kinds.specs.Stripe as stripe
+use Rattle.stripes.specs.Stripe as stripe
 use Rattle.pools.specs.Test.{isPool, slotFine, alone, fine, below, rootFine, freeFine, chainFine, restFine, isSound}
 use Rattle.walks.specs.Walks.{smallestX, largestX, smallestY, listing}
 use Rattle.kinds.proofs.Tests.{clash}

@@ -9,7 +9,7 @@ use Rattle.kinds.specs.declared.Outcome.{Outcome}
 use Rattle.kinds.specs.declared.Outcome.the-variants.{Found, Nothing, Listed, Refused}
 use Rattle.kinds.specs.Answer.{five}
 use Rattle.kinds.specs.Promise.{Result}
-use Rattle.kinds.specs.Stripe.{rootStripe}
+use Rattle.stripes.specs.Stripe.{rootStripe}
 use Rattle.plain.specs.Strips.{coversLimits, lastLimits, meetsLimits, containsLimits}
 use Rattle.walks.specs.Walks.{smallestX, largestX, smallestY, listing, roomOf}
 use Rattle.pools.specs.Cells.{treeOf}

@@ -12,7 +12,7 @@ use Rattle.kinds.specs.declared.Pair.{Pair}
 use Rattle.kinds.specs.declared.Walked.{Walked}
 use Rattle.pools.specs.Cells.{pairAt, treeAt}
 use Rattle.plain.specs.Plain.{inRange}
-use Rattle.kinds.specs.Stripe.{allLevels, Stripe}
+use Rattle.stripes.specs.Stripe.{allLevels, Stripe}
 use Rattle.pools.specs.Sound.{nowhere}
 use Rattle.trees.specs.Tree.{Tree, none, size}
 use Rattle.walks.specs.Walks.{seen}

@@ -15,7 +15,7 @@ use Rattle.pools.specs.Cells.{pairAt, rootOf, treeAt}
 use Rattle.pools.specs.Links.{Fits}
 use Rattle.plain.specs.Plain.{inRange}
 use Rattle.pools.specs.Sound.{Sound}
-use Rattle.kinds.specs.Stripe.{lowLevels, allLevels, Stripe, rootStripe}
+use Rattle.stripes.specs.Stripe.{lowLevels, allLevels, Stripe, rootStripe}
 use Rattle.trees.specs.Tree.{Tree, size, Within}
 use Rattle.walks.specs.Walks.{seen}
 use Rattle.pools.proofs.Leads.{tree-none, tree-fork, tree-within, leads-fits}

@@ -13,7 +13,7 @@ use Rattle.pools.specs.Cells.{pairAt, leftAt, rightAt, treeAt}
 use Rattle.pools.specs.Links.{sonAt}
 use Rattle.plain.specs.Plain.{smaller, larger}
 use Rattle.pools.specs.Sound.{Leads}
-use Rattle.kinds.specs.Stripe.{lowLevels, allLevels, Stripe, middle, leftPart, rightPart}
+use Rattle.stripes.specs.Stripe.{lowLevels, allLevels, Stripe, middle, leftPart, rightPart}
 use Rattle.trees.specs.Tree.{Tree, none, fork, size, Within}
 use Rattle.walks.specs.Walks.{seen, ask, xRule, smallestX, largestX}
 use Rattle.plain.proofs.Closest.{Ranks, by-smaller, by-larger}

@@ -10,7 +10,7 @@ use Rattle.kinds.specs.declared.Pair.{Pair}
 use Rattle.kinds.specs.declared.Walked.{Walked}
 use Rattle.pools.specs.Cells.{treeAt}
 use Rattle.pools.specs.Sound.{Leads, nowhere}
-use Rattle.kinds.specs.Stripe.{lowLevels, allLevels, Stripe, leftPart, rightPart}
+use Rattle.stripes.specs.Stripe.{lowLevels, allLevels, Stripe, leftPart, rightPart}
 use Rattle.trees.specs.Tree.{Tree, none, fork, size, Within}
 use Rattle.pools.proofs.Leads.{tree-none, tree-deeper}
 use Rattle.walks.specs.Walks.{seen, ask}

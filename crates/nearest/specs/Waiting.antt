@@ -11,7 +11,7 @@ use Rattle.kinds.specs.declared.Walked.{Walked}
 use Rattle.pools.specs.Cells.{treeAt}
 use Rattle.plain.specs.Plain.{closest}
 use Rattle.pools.specs.Sound.{Leads}
-use Rattle.kinds.specs.Stripe.{lowLevels, allLevels, Stripe}
+use Rattle.stripes.specs.Stripe.{lowLevels, allLevels, Stripe}
 use Rattle.trees.specs.Tree.{Tree, Within, size}
 use Rattle.walks.specs.Walks.{seen, orElse}
 use Rattle.questions.specs.Walking.{foundAt, Some}

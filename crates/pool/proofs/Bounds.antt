@@ -12,7 +12,7 @@ use Rattle.kinds.specs.Answer.{refused}
 use Rattle.kinds.specs.Making.{listedBy}
 use Rattle.kinds.specs.Promise.{Line, Result, Promise, byLines, given}
 use Rattle.kinds.proofs.Tables.{NoLine}
-use Rattle.kinds.specs.Stripe.{rootStripe}
+use Rattle.stripes.specs.Stripe.{rootStripe}
 use Rattle.kinds.proofs.Numbers.{five-visits, five-count, refused-numbers}
 use Rattle.kinds.proofs.Tests.{on}
 use Rattle.plain.specs.Books.{plainSmallestX, plainLargestX, plainSmallestY, plainListing}

@@ -10,7 +10,7 @@ use borrow.Author.Tests.{eqb-false, ne-eqb, not-false}
 use Rattle.kinds.specs.declared.Pair.{Pair}
 use Rattle.kinds.specs.Answer.{five, numbersOf}
 use Rattle.kinds.specs.Promise.{Result, given, accepted}
-use Rattle.kinds.specs.Stripe.{rootStripe}
+use Rattle.stripes.specs.Stripe.{rootStripe}
 use Rattle.kinds.proofs.Tables.{NoLine, Decided, table-decided, none-holds, refused-same, accepted-made, given-either}
 use Rattle.kinds.proofs.Tests.{and-false}
 use Rattle.plain.specs.Books.{plainInsert, plainDelete}

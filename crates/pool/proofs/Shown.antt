@@ -9,7 +9,7 @@ use lib.ListN.{length-take}
 use Rattle.kinds.specs.declared.Limits.{Limits}
 use Rattle.kinds.specs.declared.Pair.{Pair}
 use Rattle.kinds.specs.Promise.{given}
-use Rattle.kinds.specs.Stripe.{rootStripe}
+use Rattle.stripes.specs.Stripe.{rootStripe}
 use Rattle.plain.specs.Books.{plainListing}
 use Rattle.plain.specs.Plain.{matches, those}
 use Rattle.plain.proofs.Those.{those-mem, those-apart}

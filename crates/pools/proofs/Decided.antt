@@ -10,7 +10,7 @@ use lib.ListN.{length}
 use borrow.Author.Tests.{eq-eqb, ne-eqb, le-leb, lt-ltb, eqb-true, eqb-false, leb-true, ltb-true, ltb-false, not-true}
 use Rattle.kinds.specs.declared.Pair.{Pair}
 use Rattle.kinds.specs.Pairs.{beats}
-use Rattle.kinds.specs.Stripe.{Stripe, In, holds, rootStripe, middle, leftPart, rightPart, lowLevels, allLevels}
+use Rattle.stripes.specs.Stripe.{Stripe, In, holds, rootStripe, middle, leftPart, rightPart, lowLevels, allLevels}
 use Rattle.trees.specs.Tree.{Tree, fork, size, Tops, free, over, Within, Well, itself}
 use Rattle.trees.specs.Standing.{New}
 use Rattle.trees.specs.Changes.{met}

@@ -7,7 +7,7 @@ use mathlib.Core.List.{List, _∷_, List·Memᴰ}
 use native.Mathlib.Omega.{arith}
 use lib.ListN.{length}
 use Rattle.kinds.specs.declared.Pair.{Pair}
-use Rattle.kinds.specs.Stripe.{rootStripe}
+use Rattle.stripes.specs.Stripe.{rootStripe}
 use Rattle.trees.specs.Tree.{size, Mem, Well, itself}
 use Rattle.trees.specs.Standing.{New, Stands}
 use Rattle.trees.specs.Changes.{Cut, takeOut}

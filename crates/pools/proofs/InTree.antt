@@ -9,7 +9,7 @@ use lib.Dec.{eqb, leb}
 use lib.ListN.{length}
 use borrow.Author.Tests.{eqb-true, eqb-false, le-leb, lt-leb}
 use Rattle.kinds.specs.declared.Pair.{Pair}
-use Rattle.kinds.specs.Stripe.{rootStripe}
+use Rattle.stripes.specs.Stripe.{rootStripe}
 use Rattle.kinds.proofs.Tests.{on, clash}
 use Rattle.plain.specs.Plain.{hasX, has, Alike, Apart}
 use Rattle.plain.proofs.Having.{hasX-true, true-hasX, has-true, true-has}

@@ -7,7 +7,7 @@ use mathlib.Core.List.{List, _∷_, List·Memᴰ, List·Memᴰ·head, List·Mem�
 use native.Mathlib.Omega.{arith}
 use lib.ListN.{length}
 use Rattle.kinds.specs.declared.Pair.{Pair}
-use Rattle.kinds.specs.Stripe.{In, rootStripe}
+use Rattle.stripes.specs.Stripe.{In, rootStripe}
 use Rattle.trees.specs.Tree.{Tree, Well, itself}
 use Rattle.trees.specs.Standing.{New, Stands}
 use Rattle.trees.specs.Changes.{goDown}

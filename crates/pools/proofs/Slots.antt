@@ -6,7 +6,7 @@ use mathlib.Core.List.{List, _∷_, _++_, List·Memᴰ, List·Memᴰ·head, List
 use native.Mathlib.Omega.{arith}
 use lib.ListN.{length, length-append}
 use Rattle.kinds.specs.declared.Pair.{Pair}
-use Rattle.kinds.specs.Stripe.{Stripe, rootStripe, leftPart, rightPart}
+use Rattle.stripes.specs.Stripe.{Stripe, rootStripe, leftPart, rightPart}
 use Rattle.trees.specs.Tree.{Tree, none, fork, size, Mem, here, in-left, in-right, Well, itself}
 use Rattle.trees.specs.Standing.{slots, Stands, at-top, at-left, at-right, Distinct}
 use Rattle.plain.specs.Plain.{Apart}

@@ -6,7 +6,7 @@ use mathlib.Core.Logic.{_≢_, inl, ⊎-elim}
 use mathlib.Core.List.{List}
 use native.Mathlib.Omega.{arith}
 use Rattle.kinds.specs.declared.Pair.{Pair}
-use Rattle.kinds.specs.Stripe.{rootStripe}
+use Rattle.stripes.specs.Stripe.{rootStripe}
 use Rattle.trees.specs.Tree.{Mem, itself}
 use Rattle.trees.specs.Standing.{New}
 use Rattle.pools.specs.Cells.{freeOf, countOf, rightAt, freeMark}

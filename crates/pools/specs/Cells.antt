@@ -5,7 +5,7 @@ use mathlib.Core.List.{List, [], _∷_, _++_}
 use lib.Dec.{eqb}
 use lib.ListN.{length, getD, set}
 use Rattle.kinds.specs.declared.Pair.{Pair}
-use Rattle.kinds.specs.Stripe.{allLevels}
+use Rattle.stripes.specs.Stripe.{allLevels}
 use Rattle.plain.specs.Books.{Book}
 use Rattle.trees.specs.Tree.{Tree, none, fork}
 

@@ -2,7 +2,7 @@
 use Prim.Native.Nat.{ℕ, _+_, _-_}
 use mathlib.Core.List.{List}
 use Rattle.kinds.specs.declared.Pair.{Pair}
-use Rattle.kinds.specs.Stripe.{rootStripe}
+use Rattle.stripes.specs.Stripe.{rootStripe}
 use Rattle.trees.specs.Tree.{Tree, none, fork, itself}
 use Rattle.trees.specs.Changes.{Cut, goDown, takeOut}
 use Rattle.pools.specs.Cells.{treeOf, freeOf, countOf, rightAt, putHeader, putPair, putLinks, putFree}

@@ -4,7 +4,7 @@ use mathlib.Core.Path.{_≡_}
 use mathlib.Core.List.{List, [], _∷_}
 use lib.ListN.{length}
 use Rattle.kinds.specs.declared.Pair.{Pair}
-use Rattle.kinds.specs.Stripe.{rootStripe, allLevels}
+use Rattle.stripes.specs.Stripe.{rootStripe, allLevels}
 use Rattle.trees.specs.Tree.{Tree, none, fork, itself, size, xs, InStripes, Ordered, Within}
 use Rattle.plain.specs.Plain.{Apart}
 use Rattle.pools.specs.Cells.{perSlot, mostSlots, poolMark, slotsOf, markOf, rootOf, freeOf, countOf, pairAt, leftAt, rightAt, freeMark}

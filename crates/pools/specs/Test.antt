@@ -6,7 +6,7 @@ use lib.Dec.{ltb, leb, eqb}
 use lib.ListN.{length}
 use Rattle.kinds.specs.declared.Pair.{Pair}
 use Rattle.kinds.specs.Pairs.{beats}
-use Rattle.kinds.specs.Stripe.{Stripe, rootStripe, holds, middle, leftPart, rightPart, lowLevels}
+use Rattle.stripes.specs.Stripe.{Stripe, rootStripe, holds, middle, leftPart, rightPart, lowLevels}
 use Rattle.trees.specs.Tree.{Tree, size, itself}
 use Rattle.trees.specs.Changes.{met}
 use Rattle.pools.specs.Cells.{treeOf, perSlot, mostSlots, poolMark, slotsOf, markOf, rootOf, freeOf, countOf, pairAt, leftAt, rightAt, isFree, treeAt}

@@ -9,7 +9,7 @@ use Rattle.kinds.specs.declared.Walked.{Walked}
 use Rattle.kinds.specs.declared.Finding.{Finding}
 use Rattle.kinds.specs.Making.{answered}
 use Rattle.kinds.specs.Promise.{Gives}
-use Rattle.kinds.specs.Stripe.{rootStripe}
+use Rattle.stripes.specs.Stripe.{rootStripe}
 use Rattle.kinds.proofs.Tables.{gives}
 use Rattle.plain.specs.Plain.{matches, those, smallestXOf, largestXOf, smallestYOf}
 use Rattle.plain.proofs.Counts.{those-count}

@@ -6,7 +6,7 @@ use lib.ListN.{length, drop}
 use Rattle.kinds.specs.declared.Limits.{Limits}
 use Rattle.kinds.specs.declared.Pair.{Pair}
 use Rattle.kinds.specs.Promise.{Promise}
-use Rattle.kinds.specs.Stripe.{rootStripe}
+use Rattle.stripes.specs.Stripe.{rootStripe}
 use Rattle.plain.specs.Books.{Plainly, plainInsert, plainDelete, plainSmallestX, plainLargestX, plainSmallestY, plainListing, promise}
 use Rattle.plain.specs.Strips.{stripPair, coversLimits, lastLimits, meetsLimits, containsLimits, plainOpen, plainClose, plainFirst, plainLast, plainEarliest, plainCovers, plainMeets, plainContains}
 use Rattle.walks.specs.Walks.{smallestX, largestX, smallestY, Listed, listing, roomOf, written}

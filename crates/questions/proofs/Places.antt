@@ -6,10 +6,10 @@ use mathlib.Core.List.{List}
 use native.Mathlib.Omega.{arith}
 use Rattle.pools.specs.Cells.{leftAt, rightAt, treeAt}
 use Rattle.pools.specs.Links.{Fits, sonAt}
-use Rattle.kinds.specs.Stripe.{Stripe, leftPart, rightPart}
+use Rattle.stripes.specs.Stripe.{Stripe, leftPart, rightPart}
 use Rattle.trees.specs.Tree.{size}
 use Rattle.pools.proofs.Leads.{back, tree-fork, leads-deep, leads-fits, leads-son}
-use Rattle.kinds.proofs.Stripes.{low-left, low-right}
+use Rattle.stripes.proofs.Stripes.{low-left, low-right}
 use Rattle.questions.specs.Walking.{Walkable}
 
 module _ (c : List ℕ) (k s : ℕ) (at : Stripe) (v : ℕ) (one : 1 ≤ s) (o : Walkable c (suc k) s at v) where

@@ -10,7 +10,7 @@ use Rattle.kinds.specs.declared.Walked.{Walked}
 use Rattle.pools.specs.Cells.{mostSlots, rootOf, treeAt}
 use Rattle.pools.specs.Links.{Fits}
 use Rattle.pools.specs.Sound.{Sound}
-use Rattle.kinds.specs.Stripe.{allLevels, Stripe, rootStripe}
+use Rattle.stripes.specs.Stripe.{allLevels, Stripe, rootStripe}
 use Rattle.trees.specs.Tree.{Tree, none, size}
 use Rattle.walks.specs.Walks.{seen}
 use Rattle.pools.proofs.Leads.{tree-none, leads-tree}

@@ -10,8 +10,8 @@ use Rattle.kinds.specs.declared.Walked.{Walked}
 use Rattle.pools.specs.Cells.{pairAt, treeAt}
 use Rattle.pools.specs.Links.{Fits}
 use Rattle.pools.specs.Sound.{Leads}
-use Rattle.kinds.specs.Stripe.{Stripe}
-use Rattle.kinds.specs.Heights.{Low}
+use Rattle.stripes.specs.Stripe.{Stripe}
+use Rattle.stripes.specs.Heights.{Low}
 use Rattle.trees.specs.Tree.{size}
 
 -- the finding that a slot's number stands for

@@ -1,12 +1,12 @@
 // Largest x over a sound pool: a loop, while left sons wait in rows. A stop waits for a slot above whose right son has given
 // nothing so far; slot 0 is an empty stop, where the one that came last is next. The crate `leftmost` has the mirror.
-use kinds::Stripe;
 use kinds::Walked;
 use questions::found_at;
 use questions::in_range;
 use slim::Slim;
+use stripes::Stripe;
 ghost use mathlib.Core.Path.{_≡_};
-ghost use Rattle.kinds.specs.Stripe.{allLevels, rootStripe};
+ghost use Rattle.stripes.specs.Stripe.{allLevels, rootStripe};
 ghost use Rattle.plain.specs.Plain.{limits};
 ghost use Rattle.pools.specs.Cells.{rootOf, treeAt};
 ghost use Rattle.pools.specs.Sound.{Sound};

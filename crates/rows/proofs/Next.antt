@@ -18,7 +18,7 @@ use Rattle.pools.specs.Cells.{perSlot, isFree, rootOf, storedFrom, stored, tree
 use Rattle.kinds.specs.Placed.{placed}
 use Rattle.plain.specs.Plain.{limits, matches, smaller, smallestXOf, Closest}
 use Rattle.pools.specs.Sound.{Sound}
-use Rattle.kinds.specs.Stripe.{allLevels, rootStripe}
+use Rattle.stripes.specs.Stripe.{allLevels, rootStripe}
 use Rattle.walks.specs.Walks.{smallestX}
 use Rattle.walks.proofs.AnyOrder.{smallestX-any}
 use Rattle.pools.proofs.Decided.{sound-well, sound-tree}

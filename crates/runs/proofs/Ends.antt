@@ -12,7 +12,7 @@ use Rattle.kinds.specs.declared.Limits.{Limits}
 use Rattle.kinds.specs.declared.Pair.{Pair}
 use Rattle.kinds.specs.Answer.{outcomeOf}
 use Rattle.kinds.specs.Promise.{Line}
-use Rattle.kinds.specs.Stripe.{rootStripe}
+use Rattle.stripes.specs.Stripe.{rootStripe}
 use Rattle.plain.specs.Books.{Book, lists, without, plainInsert, plainDelete, plainSmallestX, plainLargestX, plainSmallestY, plainListing}
 use Rattle.plain.specs.Plain.{matches, those, hasX, has, smallestXOf, largestXOf, smallestYOf}
 use Rattle.plain.specs.Strips.{stripPair, coversLimits, lastLimits, meetsLimits, containsLimits, plainOpen, plainClose, plainFirst, plainLast, plainEarliest, plainCovers, plainMeets, plainContains}

@@ -4,8 +4,8 @@ use Prim.Native.Nat.{ℕ, zero, suc, _+_, _-_, _/_, _^_, _≤_}
 use mathlib.Core.Path.{_≡_, refl, sym, ap, _∙_}
 use native.Mathlib.Omega.{arith}
 use native.Mathlib.Nat.{two-pow-succ}
-use Rattle.kinds.specs.Stripe.{lowLevels, middle, leftPart, rightPart}
-use Rattle.kinds.proofs.Heights.{power-some}
+use Rattle.stripes.specs.Stripe.{lowLevels, middle, leftPart, rightPart}
+use Rattle.stripes.proofs.Heights.{power-some}
 use Rattle.slim.specs.declared.Slim.{Slim}
 use Rattle.slim.specs.Slim.{wide, stripeBy, rootSlim, leftSlim, rightSlim, MiddleFits, SlimAt}
 

@@ -1,7 +1,7 @@
 -- A stripe as the x walks have it: slim, by its lower end and half of its width.
 use Prim.Native.Nat.{ℕ, zero, suc, _+_, _/_, _^_, _≤_, _<_}
 use mathlib.Core.Path.{_≡_}
-use Rattle.kinds.specs.Stripe.{Stripe}
+use Rattle.stripes.specs.Stripe.{Stripe}
 use Rattle.slim.specs.declared.Slim.{Slim}
 
 -- a width by its half: the half of a single x is 0

@@ -1,7 +1,7 @@
 // A slim stripe: in 32 bits, by its lower end and half of its width.
 ghost use mathlib.Core.Path.{_≡_};
 ghost use lib.Dec.{ltb};
-ghost use Rattle.kinds.specs.Stripe.{middle};
+ghost use Rattle.stripes.specs.Stripe.{middle};
 ghost use Rattle.slim.specs.Slim.{MiddleFits, stripeBy, rootSlim, leftSlim, rightSlim};
 
 pub struct Slim {

@@ -11,7 +11,7 @@ use lib.ListN.{length, length-append}
 use borrow.Author.Tests.{eqb-false, leb-true, ltb-true}
 use Rattle.kinds.specs.declared.Pair.{Pair}
 use Rattle.kinds.specs.Pairs.{Beats, beats}
-use Rattle.kinds.specs.Stripe.{Stripe, In, holds, rootStripe, leftPart, rightPart, lowLevels}
+use Rattle.stripes.specs.Stripe.{Stripe, In, holds, rootStripe, leftPart, rightPart, lowLevels}
 use Rattle.plain.specs.Plain.{Apart}
 use Rattle.pools.specs.Cells.{slotsOf, rootOf, pairAt, leftAt, rightAt}
 use Rattle.pools.specs.Sound.{Slot}

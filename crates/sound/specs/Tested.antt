@@ -5,7 +5,7 @@ use mathlib.Core.List.{List}
 use lib.Dec.{eqb}
 use Rattle.kinds.specs.declared.Pair.{Pair}
 use Rattle.kinds.specs.Pairs.{beats}
-use Rattle.kinds.specs.Stripe.{Stripe, rootStripe, leftPart, rightPart, lowLevels}
+use Rattle.stripes.specs.Stripe.{Stripe, rootStripe, leftPart, rightPart, lowLevels}
 use Rattle.pools.specs.Cells.{rootOf, pairAt, leftAt, rightAt}
 use Rattle.pools.specs.Test.{slotFine, fine}
 

@@ -10,8 +10,8 @@ use lib.Dec.{ltb}
 use borrow.Author.Tests.{eq-eqb, ne-eqb}
 use Rattle.kinds.specs.declared.Pair.{Pair}
 use Rattle.kinds.specs.Pairs.{beats}
-use Rattle.kinds.specs.Stripe.{lowLevels, Stripe, middle, leftPart, rightPart}
-use Rattle.kinds.specs.Heights.{Low}
+use Rattle.stripes.specs.Stripe.{lowLevels, Stripe, middle, leftPart, rightPart}
+use Rattle.stripes.specs.Heights.{Low}
 use Rattle.trees.specs.Tree.{size}
 use Rattle.trees.specs.Changes.{met}
 use Rattle.pools.specs.Cells.{pairAt, leftAt, rightAt, treeAt}

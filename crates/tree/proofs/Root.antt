@@ -4,7 +4,7 @@ use mathlib.Core.Path.{_≡_, sym, _∙_}
 use mathlib.Core.Bool.{Bool, true, false}
 use mathlib.Core.List.{List}
 use borrow.Author.Tests.{eq-eqb, ne-eqb}
-use Rattle.kinds.specs.Stripe.{Stripe, rootStripe, lowLevels, allLevels}
+use Rattle.stripes.specs.Stripe.{Stripe, rootStripe, lowLevels, allLevels}
 use Rattle.pools.specs.Cells.{rootOf}
 use Rattle.pools.specs.Test.{slotFine, rootFine}
 use Rattle.pools.proofs.Leads.{tree-none, tree-fork}

@@ -10,7 +10,7 @@ use lib.ListN.{length}
 use borrow.Author.Tests.{ne-eqb, le-leb, lt-leb, leb-true}
 use Rattle.kinds.specs.declared.Pair.{Pair}
 use Rattle.kinds.specs.Pairs.{beats}
-use Rattle.kinds.specs.Stripe.{Stripe, holds}
+use Rattle.stripes.specs.Stripe.{Stripe, holds}
 use Rattle.pools.specs.Cells.{perSlot, slotsOf, pairAt}
 use Rattle.pools.specs.Links.{Fits}
 use Rattle.pools.specs.Test.{slotFine, fine}

@@ -5,7 +5,7 @@ use mathlib.Core.Bool.{Bool, true, false, cond}
 use mathlib.Core.List.{List}
 use Rattle.kinds.specs.declared.Pair.{Pair}
 use Rattle.kinds.specs.Pairs.{beats}
-use Rattle.kinds.specs.Stripe.{Stripe, allLevels}
+use Rattle.stripes.specs.Stripe.{Stripe, allLevels}
 use Rattle.trees.specs.Tree.{size}
 use Rattle.pools.specs.Cells.{rootOf, pairAt, leftAt, rightAt, treeAt}
 use Rattle.pools.specs.Test.{slotFine, fine, below, rootFine}

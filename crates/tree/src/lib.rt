@@ -1,15 +1,15 @@
 // The tree part of the check. A slot is tested before anything below it is looked at.
 use kinds::Pair;
-use kinds::Stripe;
+use stripes::Stripe;
 ghost use mathlib.Core.Path.{_≡_};
 ghost use mathlib.Core.Bool.{not};
 ghost use Prim.Native.Nat.{_≤_};
 ghost use Rattle.pools.specs.Cells.{treeAt};
 ghost use Rattle.pools.specs.Links.{Fits};
-ghost use Rattle.kinds.specs.Shape.{stripeOf};
+ghost use Rattle.stripes.specs.Shape.{stripeOf};
 ghost use Rattle.pools.specs.Sound.{Pool};
-ghost use Rattle.kinds.specs.Stripe.{lowLevels};
-ghost use Rattle.kinds.specs.Heights.{Low};
+ghost use Rattle.stripes.specs.Stripe.{lowLevels};
+ghost use Rattle.stripes.specs.Heights.{Low};
 ghost use Rattle.pools.specs.Test.{alone, slotFine};
 ghost use Rattle.tree.specs.Checked.{fromLink, fromSlot, fromRoot, SonIs};
 ghost use Rattle.halving.specs.Sought.{Sought};

@@ -3,7 +3,7 @@
 use Prim.Native.Nat.{ℕ}
 use mathlib.Core.Path.{_≡_}
 use Rattle.kinds.specs.declared.Pair.{Pair}
-use Rattle.kinds.specs.Stripe.{Stripe, In}
+use Rattle.stripes.specs.Stripe.{Stripe, In}
 use Rattle.trees.specs.Tree.{Tree, fork, All, Mem, Tops, Under, Well}
 use Rattle.trees.specs.Standing.{New}
 use Rattle.trees.specs.Changes.{goDown, takeOut}

@@ -2,7 +2,7 @@
 -- else is assumed.
 use Prim.Native.Nat.{ℕ}
 use Rattle.kinds.specs.declared.Pair.{Pair}
-use Rattle.kinds.specs.Stripe.{Stripe, In, leftPart, rightPart}
+use Rattle.stripes.specs.Stripe.{Stripe, In, leftPart, rightPart}
 use Rattle.trees.specs.Tree.{Tree, none, fork, members, Tops, InStripes, Ordered, xs, Well}
 use Rattle.trees.specs.Standing.{New}
 use Rattle.plain.specs.Plain.{Differs, Apart}

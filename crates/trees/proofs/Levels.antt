@@ -4,7 +4,7 @@ use Prim.Native.Nat.{ℕ, zero, suc, _+_, _^_, _≤_}
 use native.Mathlib.Omega.{arith}
 use native.Mathlib.Nat.{two-pow-succ}
 use Rattle.kinds.specs.declared.Pair.{Pair}
-use Rattle.kinds.specs.Stripe.{Stripe, In, rootStripe, leftPart, rightPart, lowLevels, allLevels}
+use Rattle.stripes.specs.Stripe.{Stripe, In, rootStripe, leftPart, rightPart, lowLevels, allLevels}
 use Rattle.trees.specs.Tree.{Tree, none, fork, All, Under, Well, Within}
 
 module _ {A : Type 0} (key : A → Pair) where

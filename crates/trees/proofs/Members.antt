@@ -4,7 +4,7 @@ use mathlib.Core.Logic.{_↔_, ⊎-elim}
 use mathlib.Core.List.{List·Memᴰ, List·Memᴰ·head, List·Memᴰ·tail, List·Memᴰ·append-cases, Memᴰ·append-left, Memᴰ·append-right}
 use native.Mathlib.Omega.{arith}
 use Rattle.kinds.specs.declared.Pair.{Pair}
-use Rattle.kinds.specs.Stripe.{Stripe, leftPart, rightPart}
+use Rattle.stripes.specs.Stripe.{Stripe, leftPart, rightPart}
 use Rattle.trees.specs.Tree.{Tree, none, fork, members, Mem, here, in-left, in-right, xs, Well}
 use Rattle.trees.specs.Standing.{New}
 use Rattle.plain.specs.Plain.{Differs, Apart}

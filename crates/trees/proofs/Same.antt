@@ -5,7 +5,7 @@ use mathlib.Core.Logic.{_≢_, _↔_, _⊎_, inl, inr}
 use native.Mathlib.Omega.{arith}
 use Rattle.kinds.specs.declared.Pair.{Pair}
 use Rattle.kinds.specs.Pairs.{Beats}
-use Rattle.kinds.specs.Stripe.{Stripe, In, middle, leftPart, rightPart}
+use Rattle.stripes.specs.Stripe.{Stripe, In, middle, leftPart, rightPart}
 use Rattle.trees.specs.Tree.{Tree, none, fork, bare, All, Mem, here, in-left, in-right, Under, Well-fork, Well}
 use Rattle.kinds.proofs.Order.{beats-asym}
 use Rattle.trees.proofs.Trees.{all-map, all-and, all-at, all-mem, well-in}

@@ -7,7 +7,7 @@ use native.Mathlib.Omega.{arith}
 use lib.Dec.{eqb}
 use borrow.Author.Tests.{eqb-true, eqb-false}
 use Rattle.kinds.specs.declared.Pair.{Pair}
-use Rattle.kinds.specs.Stripe.{Stripe}
+use Rattle.stripes.specs.Stripe.{Stripe}
 use Rattle.trees.specs.Tree.{Tree, none, fork, size}
 use Rattle.trees.specs.Standing.{Stands, at-top, at-left, at-right, Distinct}
 use Rattle.kinds.proofs.Tests.{on}

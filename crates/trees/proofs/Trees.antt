@@ -2,7 +2,7 @@
 use mathlib.Core.Path.{refl, sym, subst}
 use native.Mathlib.Omega.{arith}
 use Rattle.kinds.specs.declared.Pair.{Pair}
-use Rattle.kinds.specs.Stripe.{Stripe, In, leftPart, rightPart}
+use Rattle.stripes.specs.Stripe.{Stripe, In, leftPart, rightPart}
 use Rattle.trees.specs.Tree.{Tree, none, fork, All, Mem, here, in-left, in-right, Tops, free, over, Under, Well}
 use Rattle.trees.specs.Standing.{New}
 

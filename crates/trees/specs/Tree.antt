@@ -5,7 +5,7 @@ use mathlib.Core.Logic.{_≢_}
 use mathlib.Core.List.{List, [], _∷_, _++_, map}
 use Rattle.kinds.specs.declared.Pair.{Pair}
 use Rattle.kinds.specs.Pairs.{Beats}
-use Rattle.kinds.specs.Stripe.{Stripe, In, leftPart, rightPart}
+use Rattle.stripes.specs.Stripe.{Stripe, In, leftPart, rightPart}
 
 -- an empty place, or a slot: its number, what it holds, and what stands below it on either side
 pub data Tree (A : Type 0) : Type 0 where

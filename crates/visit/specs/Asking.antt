@@ -4,7 +4,7 @@ use mathlib.Core.Bool.{cond}
 use mathlib.Core.List.{List}
 use lib.Dec.{ltb, leb}
 use Rattle.pools.specs.Cells.{leftAt, rightAt}
-use Rattle.kinds.specs.Stripe.{Stripe, middle}
+use Rattle.stripes.specs.Stripe.{Stripe, middle}
 
 -- the left son if x0 < m, or 0
 unfoldable pub leftAsked : List ℕ → ℕ → Stripe → ℕ → ℕ

@@ -6,7 +6,7 @@ use mathlib.Core.List.{List, List·Memᴰ}
 use Rattle.kinds.specs.declared.Pair.{Pair}
 use Rattle.kinds.specs.declared.Limits.{Limits}
 use Rattle.plain.specs.Plain.{smallestXOf, largestXOf, smallestYOf, Alike}
-use Rattle.kinds.specs.Stripe.{Stripe}
+use Rattle.stripes.specs.Stripe.{Stripe}
 use Rattle.trees.specs.Tree.{Tree, members, Mem, Well, itself}
 use Rattle.walks.specs.Walks.{smallestX, largestX, smallestY}
 use Rattle.trees.proofs.Members.{members-mem, well-apart}

@@ -13,7 +13,7 @@ use Rattle.kinds.specs.declared.Finding.the-variants.{Nothing}
 use Rattle.kinds.specs.declared.Walked.{Walked}
 use Rattle.kinds.specs.Pairs.{beats}
 use Rattle.plain.specs.Plain.{inRange, matches, own, closest, smaller, larger, smallestXOf, largestXOf, smallestYOf}
-use Rattle.kinds.specs.Stripe.{Stripe, In, middle, leftPart, rightPart}
+use Rattle.stripes.specs.Stripe.{Stripe, In, middle, leftPart, rightPart}
 use Rattle.trees.specs.Tree.{Tree, none, fork, members, All, Under, Well, itself}
 use Rattle.walks.specs.Walks.{ask, orElse, xRule, smallestX, largestX, smallestY}
 use Rattle.kinds.proofs.Tests.{on}

@@ -10,7 +10,7 @@ use lib.ListN.{length, length-append}
 use Rattle.kinds.specs.declared.Pair.{Pair}
 use Rattle.kinds.specs.declared.Limits.{Limits}
 use Rattle.plain.specs.Plain.{matches}
-use Rattle.kinds.specs.Stripe.{Stripe, rootStripe, middle, leftPart, rightPart}
+use Rattle.stripes.specs.Stripe.{Stripe, rootStripe, middle, leftPart, rightPart}
 use Rattle.trees.specs.Tree.{Tree, fork, Well, itself}
 use Rattle.walks.specs.Walks.{Listed, listed, andThen, listOwn, listing}
 use Rattle.kinds.proofs.Tests.{on, clash}

@@ -11,7 +11,7 @@ use borrow.Author.Tests.{ltb-true, ltb-false, lt-ltb, le-ltb}
 use Rattle.kinds.specs.declared.Pair.{Pair}
 use Rattle.kinds.specs.declared.Limits.{Limits}
 use Rattle.plain.specs.Plain.{matches, those}
-use Rattle.kinds.specs.Stripe.{Stripe, middle, leftPart, rightPart}
+use Rattle.stripes.specs.Stripe.{Stripe, middle, leftPart, rightPart}
 use Rattle.trees.specs.Tree.{Tree, none, fork, members, All, Well, itself}
 use Rattle.walks.specs.Walks.{Listed, listed, andThen, listOwn, listing}
 use Rattle.kinds.proofs.Tests.{on}

@@ -10,7 +10,7 @@ use Rattle.kinds.specs.declared.Pair.{Pair}
 use Rattle.kinds.specs.declared.Limits.{Limits}
 use Rattle.kinds.specs.Pairs.{Beats, lower, level}
 use Rattle.plain.specs.Plain.{inRange, matches}
-use Rattle.kinds.specs.Stripe.{Stripe, middle, leftPart, rightPart}
+use Rattle.stripes.specs.Stripe.{Stripe, middle, leftPart, rightPart}
 use Rattle.trees.specs.Tree.{Tree, fork, All, Well, itself}
 use Rattle.kinds.proofs.Tests.{and-false}
 use Rattle.trees.proofs.Trees.{all-map, well-in}

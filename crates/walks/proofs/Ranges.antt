@@ -7,7 +7,7 @@ use native.Mathlib.Omega.{arith}
 use lib.Dec.{ltb, leb}
 use borrow.Author.Tests.{ltb-true, leb-true}
 use Rattle.kinds.specs.declared.Pair.{Pair}
-use Rattle.kinds.specs.Stripe.{Stripe, rootStripe, middle, leftPart, rightPart, allLevels}
+use Rattle.stripes.specs.Stripe.{Stripe, rootStripe, middle, leftPart, rightPart, allLevels}
 use Rattle.trees.specs.Tree.{Tree, none, fork, Well, Within, itself}
 use Rattle.kinds.proofs.Tests.{on}
 use Rattle.trees.proofs.Levels.{root-levels}

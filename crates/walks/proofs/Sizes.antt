@@ -9,7 +9,7 @@ use Rattle.kinds.specs.declared.Pair.{Pair}
 use Rattle.kinds.specs.declared.Limits.{Limits}
 use Rattle.kinds.specs.declared.Walked.{Walked}
 use Rattle.plain.specs.Plain.{inRange, matches}
-use Rattle.kinds.specs.Stripe.{Stripe, middle, leftPart, rightPart}
+use Rattle.stripes.specs.Stripe.{Stripe, middle, leftPart, rightPart}
 use Rattle.trees.specs.Tree.{Tree, none, fork, size}
 use Rattle.walks.specs.Walks.{ask, smallestY, Listed, listed, andThen, listOwn, listing}
 use Rattle.kinds.proofs.Tests.{on}

@@ -10,7 +10,7 @@ use Rattle.kinds.specs.declared.Finding.{Finding}
 use Rattle.kinds.specs.declared.Finding.the-variants.{Found, Nothing}
 use Rattle.kinds.specs.declared.Walked.{Walked}
 use Rattle.plain.specs.Plain.{inRange, matches, own, closest, smaller, larger}
-use Rattle.kinds.specs.Stripe.{Stripe, middle, leftPart, rightPart}
+use Rattle.stripes.specs.Stripe.{Stripe, middle, leftPart, rightPart}
 use Rattle.trees.specs.Tree.{Tree, none, fork}
 
 -- a finding, after so many visits

@@ -8,15 +8,15 @@ use lib.Dec.{ltb}
 use lib.ListN.{getD}
 use borrow.Author.Tests.{ne-eqb}
 use Rattle.kinds.specs.declared.Pair.{Pair}
-use Rattle.kinds.specs.Stripe.{Stripe, In, middle, leftPart, rightPart}
-use Rattle.kinds.specs.Heights.{partOf, stripeAt}
+use Rattle.stripes.specs.Stripe.{Stripe, In, middle, leftPart, rightPart}
+use Rattle.stripes.specs.Heights.{partOf, stripeAt}
 use Rattle.trees.specs.Tree.{Tree, fork, All, Mem, in-left, in-right, Under, Well, itself}
 use Rattle.trees.specs.Standing.{Stands, at-top, at-left, at-right, Distinct-fork, Distinct, New}
 use Rattle.trees.specs.Changes.{met}
 use Rattle.pools.specs.Cells.{pairAt, treeAt}
 use Rattle.pools.specs.Links.{sonAt, linkCell}
 use Rattle.pools.specs.Sound.{Slot, Leads}
-use Rattle.kinds.proofs.Heights.{one-at, part-at}
+use Rattle.stripes.proofs.Heights.{one-at, part-at}
 use Rattle.pools.proofs.Leads.{tree-fork}
 use Rattle.pools.proofs.Agreement.{slot-as, leads-reads}
 

@@ -11,15 +11,15 @@ use lib.ListN.{getD}
 use borrow.Author.Tests.{eqb-true, eqb-false}
 use Rattle.kinds.specs.declared.Pair.{Pair}
 use Rattle.plain.specs.Plain.{hasX}
-use Rattle.kinds.specs.Stripe.{rootStripe, lowLevels}
-use Rattle.kinds.specs.Heights.{stripeAt}
+use Rattle.stripes.specs.Stripe.{rootStripe, lowLevels}
+use Rattle.stripes.specs.Heights.{stripeAt}
 use Rattle.trees.specs.Tree.{Tree, Mem, here, Well, itself}
 use Rattle.trees.specs.Changes.{met}
 use Rattle.pools.specs.Cells.{pairAt, stored}
 use Rattle.pools.specs.Links.{Fits, linkCell}
 use Rattle.pools.specs.Sound.{Sound}
 use Rattle.kinds.proofs.Tests.{on as on-test}
-use Rattle.kinds.proofs.Heights.{root-at}
+use Rattle.stripes.proofs.Heights.{root-at}
 use Rattle.pools.proofs.Leads.{back, tree-none, tree-fork, leads-fits}
 use Rattle.trees.proofs.Halving.{unmet-new}
 use Rattle.pools.proofs.Decided.{sound-well, sound-tree}

@@ -7,8 +7,8 @@ use mathlib.Core.List.{List}
 use lib.Dec.{ltb}
 use lib.ListN.{length, getD}
 use Rattle.kinds.specs.declared.Pair.{Pair}
-use Rattle.kinds.specs.Stripe.{In, rootStripe, middle, lowLevels}
-use Rattle.kinds.specs.Heights.{stripeAt}
+use Rattle.stripes.specs.Stripe.{In, rootStripe, middle, lowLevels}
+use Rattle.stripes.specs.Heights.{stripeAt}
 use Rattle.trees.specs.Tree.{Tree}
 use Rattle.trees.specs.Standing.{Stands, Distinct}
 use Rattle.pools.specs.Cells.{perSlot, pairAt, treeAt}

@@ -1,5 +1,5 @@
 // The way down to x, from the root: at each slot a bit of x says the side.
-use kinds::Stripe;
+use stripes::Stripe;
 ghost use Rattle.pools.specs.Sound.{Sound};
 ghost use Rattle.way.specs.Way.{WayEnds};
 

@@ -4,7 +4,7 @@ use mathlib.Core.Path.{_≡_, refl, _∙_}
 use borrow.Author.Needs.{needs}
 use Rattle.trees.specs.Changes.{met}
 use Rattle.pools.specs.Cells.{treeAt}
-use Rattle.kinds.specs.Shape.{stripeOf}
+use Rattle.stripes.specs.Shape.{stripeOf}
 use Rattle.trees.specs.Tree.{itself}
 use Rattle.halving.specs.Sought.{Sought}
 use Rattle.halving.proofs.Searching.{ends-here, there, deep, hit, search-goes-on, sought-on}

@@ -6,7 +6,7 @@ use native.Mathlib.Omega.{arith}
 use borrow.Author.Needs.{needs}
 use Rattle.pools.specs.Cells.{rootOf, treeAt}
 use Rattle.plain.specs.Plain.{limits, smaller}
-use Rattle.kinds.specs.Stripe.{lowLevels, allLevels, rootStripe}
+use Rattle.stripes.specs.Stripe.{lowLevels, allLevels, rootStripe}
 use Rattle.walks.specs.Walks.{smallestX}
 use Rattle.questions.proofs.Top.{header}
 use Rattle.nearest.specs.Waiting.{InRows}

@@ -19,9 +19,9 @@ use Rattle.cells.proofs.pair.Reads as pair-reads
 use Rattle.cells.proofs.right.Reads as right-reads
 use Rattle.listing.proofs.list_own.Reads as list-own-reads
 use Rattle.listing.proofs.room_of.Reads as room-of-reads
-use Rattle.kinds.proofs.Stripe.goes_left.Reads as goes-left-reads
-use Rattle.kinds.proofs.Stripe.left.Reads as Stripe-left-reads
-use Rattle.kinds.proofs.Stripe.right.Reads as Stripe-right-reads
+use Rattle.stripes.proofs.Stripe.goes_left.Reads as goes-left-reads
+use Rattle.stripes.proofs.Stripe.left.Reads as Stripe-left-reads
+use Rattle.stripes.proofs.Stripe.right.Reads as Stripe-right-reads
 use Rattle.listing.proofs.+list_at+list_son.{statement}
 use Rattle.listing.proofs.+list_at+list_son.Tie.{close}
 

@@ -19,9 +19,9 @@ use Rattle.cells.proofs.right.Reads as right-reads
 use Rattle.lowest.proofs.asks.Reads as asks-reads
 use Rattle.questions.proofs.in_range.Reads as in-range-reads
 use Rattle.lowest.proofs.lower.Reads as lower-reads
-use Rattle.kinds.proofs.Stripe.goes_left.Reads as goes-left-reads
-use Rattle.kinds.proofs.Stripe.left.Reads as Stripe-left-reads
-use Rattle.kinds.proofs.Stripe.right.Reads as Stripe-right-reads
+use Rattle.stripes.proofs.Stripe.goes_left.Reads as goes-left-reads
+use Rattle.stripes.proofs.Stripe.left.Reads as Stripe-left-reads
+use Rattle.stripes.proofs.Stripe.right.Reads as Stripe-right-reads
 use Rattle.lowest.proofs.+better_son+smallest_y_at.{statement}
 use Rattle.lowest.proofs.+better_son+smallest_y_at.Tie.{close}
 

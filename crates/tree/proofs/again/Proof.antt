@@ -1,5 +1,5 @@
 -- The side that is looked at is the definition's. It assumes that the trees of both sons may be searched.
-use Rattle.kinds.proofs.Stripes.{low-left, low-right}
+use Rattle.stripes.proofs.Stripes.{low-left, low-right}
 use Rattle.tree.proofs.Sides.{alone-left, alone-right}
 use borrow.Author.Needs.{needs}
 use Rattle.tree.proofs.again.Statement.{statement}

@@ -1,7 +1,7 @@
 -- The root's own tests, then its sons. It assumes that the length is a pool's.
 use native.Mathlib.Omega.{arith}
 use borrow.Author.Tests.{not-true, not-false}
-use Rattle.kinds.proofs.Stripes.{low-root}
+use Rattle.stripes.proofs.Stripes.{low-root}
 use Rattle.tree.proofs.Sons.{fine-fits}
 use Rattle.tree.proofs.Root.{no-root, bad-root, good-root}
 use borrow.Author.Needs.{needs}

@@ -1,9 +1,9 @@
 -- The test picks the part. It assumes that the stripe's ends can be added (`Low`).
 use mathlib.Core.Path.{sym, _∙_}
-use Rattle.kinds.specs.Heights.{partOf}
+use Rattle.stripes.specs.Heights.{partOf}
 use borrow.Author.Needs.{needs}
-use Rattle.kinds.proofs.Stripe.towards.Statement.{statement}
-use Rattle.kinds.proofs.Stripe.towards.Tie as tie
+use Rattle.stripes.proofs.Stripe.towards.Statement.{statement}
+use Rattle.stripes.proofs.Stripe.towards.Tie as tie
 
 returns : tie.Need-returns
 unfolding partOf

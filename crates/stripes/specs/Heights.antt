@@ -3,7 +3,7 @@
 use Prim.Native.Nat.{ℕ, _+_, _*_, _/_, _^_, _≤_}
 use mathlib.Core.Bool.{cond}
 use lib.Dec.{ltb}
-use Rattle.kinds.specs.Stripe.{Stripe, middle, leftPart, rightPart}
+use Rattle.stripes.specs.Stripe.{Stripe, middle, leftPart, rightPart}
 
 -- the part on x's side of the middle
 unfoldable pub partOf : Stripe → ℕ → Stripe

@@ -1,7 +1,7 @@
 -- The middle is the part's new end. It assumes that the stripe's ends can be added (`Low`).
 use borrow.Author.Needs.{needs}
-use Rattle.kinds.proofs.Stripe.left.Statement.{statement}
-use Rattle.kinds.proofs.Stripe.left.Tie as tie
+use Rattle.stripes.proofs.Stripe.left.Statement.{statement}
+use Rattle.stripes.proofs.Stripe.left.Tie as tie
 
 returns : tie.Need-returns
 returns c = rw (c .middle .ensures)

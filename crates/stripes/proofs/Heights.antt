@@ -6,9 +6,9 @@ use native.Mathlib.Omega.{arith}
 use native.Mathlib.Nat.{two-pow-succ, one-le-pow, add-mul, mul-add, one-mul, div-add-mod', mod-lt, div-div-eq-div-mul, div-eq-of-lt-le, div-eq-of-lt, pow-suc}
 use lib.Dec.{ltb, eqb}
 use borrow.Author.Tests.{lt-ltb, le-ltb, eqb-true, eqb-false}
-use Rattle.kinds.specs.Stripe.{In, rootStripe, middle, leftPart, rightPart}
-use Rattle.kinds.specs.Heights.{partOf, stripeAt}
+use Rattle.stripes.specs.Stripe.{In, rootStripe, middle, leftPart, rightPart}
+use Rattle.stripes.specs.Heights.{partOf, stripeAt}
 use Rattle.kinds.proofs.Tests.{on}
 
 -- law: a width is not 0
 pub power-some : (k : ℕ) → 1 ≤ 2 ^ k

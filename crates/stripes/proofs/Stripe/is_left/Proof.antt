@@ -1,8 +1,8 @@
 -- The bit is the level's. It assumes a level from 1 to 32.
 use borrow.Author.Needs.{needs}
-use Rattle.kinds.proofs.Heights.{bit-of}
-use Rattle.kinds.proofs.Stripe.is_left.Statement.{statement}
-use Rattle.kinds.proofs.Stripe.is_left.Tie as tie
+use Rattle.stripes.proofs.Heights.{bit-of}
+use Rattle.stripes.proofs.Stripe.is_left.Statement.{statement}
+use Rattle.stripes.proofs.Stripe.is_left.Tie as tie
 
 returns : tie.Need-returns
 returns c = bit-of _ _ (c .pre .0)

@@ -1,8 +1,8 @@
 -- Each test of the code is one of the definition's. Nothing is assumed.
 use borrow.Author.Tests.{le-leb, lt-leb}
-use Rattle.kinds.specs.Stripe.{holds}
-use Rattle.kinds.proofs.Stripe.holds.Statement.{statement}
-use Rattle.kinds.proofs.Stripe.holds.Tie as tie
+use Rattle.stripes.specs.Stripe.{holds}
+use Rattle.stripes.proofs.Stripe.holds.Statement.{statement}
+use Rattle.stripes.proofs.Stripe.holds.Tie as tie
 
 returns : tie.Need-returns
 unfolding holds
