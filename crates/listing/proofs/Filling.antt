@@ -14,7 +14,8 @@ use Rattle.stripes.specs.Stripe.{Stripe, middle, leftPart, rightPart}
 use Rattle.trees.specs.Tree.{Tree, none, fork}
 use Rattle.walks.specs.Walks.{Listed, listed, andThen, listOwn, listing, roomOf, flat, written}
 use Rattle.kinds.proofs.Tests.{on, clash}
-use Rattle.listing.specs.Listing.{putOne, putAll, Put, Lists}
+use Rattle.jot.specs.Jotting.{putOne, putAll, Put}
+use Rattle.listing.specs.Listing.{Lists}
 
 -- a listing into so much room: it lists no more than that, all of it where a match found none, and each pair took a visit
 pub record Fills (room : ℕ) (w : Listed) : Type 0 where

@@ -1,6 +1,6 @@
 -- The listing, one step at a time, as the code takes it. It assumes a place that can be walked (`Walkable`), and a count within the room.
 use Prim.Native.Nat.{ℕ, suc, _+_, _-_, _≤_, _<_}
-use mathlib.Core.Path.{_≡_, refl, sym, _∙_}
+use mathlib.Core.Path.{_≡_, sym, _∙_}
 use mathlib.Core.Bool.{Bool, true, false, cond, not}
 use mathlib.Core.List.{List, []}
 use native.Mathlib.Omega.{arith}
@@ -17,36 +17,10 @@ use Rattle.walks.specs.Walks.{Listed, listed, andThen, listOwn, listing, roomOf
 use Rattle.kinds.proofs.Tests.{on}
 use Rattle.pools.proofs.Leads.{back, tree-none, tree-fork}
 use Rattle.walks.proofs.Sizes.{listing-size}
-use Rattle.listing.specs.Listing.{putOne, putAll, Put, Lists}
+use Rattle.jot.specs.Jotting.{Put}
+use Rattle.listing.specs.Listing.{Lists}
 use Rattle.questions.proofs.Finding.{not-lt}
 use Rattle.listing.proofs.Filling.{Fills, fills, fills-own, fills-ask, own-visits, same-room, still-fits, stopped, goes-on, left-over, lists-stopped, lists-then, lists-nothing}
-
--- a slot's own pair
-module _ (o : List ℕ) (n x0 x1 : ℕ) (p : Pair) {g : Bool} (eg : g ≡ inRange x0 x1 p) where
-  abbrev Own : List ℕ → ℕ → Type 0
-  Own o′ n′ = Put o n (listOwn (inRange x0 x1 p) (roomOf o - n) p) o′ n′
-
-  pub own-out : g ≡ false → Own o n
-  unfolding putAll
-  own-out f =
-      let e : inRange x0 x1 p ≡ false = sym eg ∙ f in
-      rw e (record { count = omega arith; cells = refl })
-
-  module _ (t : g ≡ true) (r : ℕ) (er : r ≡ roomOf o) where
-    inside : inRange x0 x1 p ≡ true
-    inside = sym eg ∙ t
-
-    pub own-counted : r ≤ n → Own o (n + 1)
-    unfolding putAll
-    own-counted h =
-        let z : roomOf o - n ≡ 0 = omega arith in
-        rw (inside, z) (record { count = omega arith; cells = refl })
-
-    pub own-put : n < r → Own (putOne o n p) (n + 1)
-    unfolding putAll
-    own-put h =
-        let z : roomOf o - n ≡ suc (roomOf o - n - 1) = omega arith in
-        rw (inside, z) (record { count = omega arith; cells = refl })
 
 -- a slot
 module _ (c : List ℕ) (k s : ℕ) (at : Stripe) (x0 x1 y1 : ℕ) (o : List ℕ) (n v : ℕ) (one : 1 ≤ s) (fit : n ≤ roomOf o) (p : Pair) (ep : p ≡ pairAt c s) where

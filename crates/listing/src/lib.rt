@@ -1,52 +1,24 @@
 // The listing over a sound pool: the walk counts the matches met so far, which is the place of the next one.
-use kinds::Pair;
-use questions::in_range;
+use jot::list_own;
+use jot::room_of;
 use stripes::Stripe;
-ghost use mathlib.Core.Path.{_≡_};
 ghost use mathlib.Core.Bool.{false, cond};
 ghost use mathlib.Core.List.{[]};
 ghost use Prim.Native.Nat.{suc, _-_, _≤_};
 ghost use Rattle.pools.specs.Cells.{rootOf, treeAt};
-ghost use Rattle.plain.specs.Plain.{limits, inRange};
+ghost use Rattle.plain.specs.Plain.{limits};
 ghost use Rattle.stripes.specs.Shape.{stripeOf};
 ghost use Rattle.pools.specs.Sound.{Sound};
 ghost use Rattle.stripes.specs.Stripe.{allLevels, rootStripe};
-ghost use Rattle.walks.specs.Walks.{listed, listOwn, listing, roomOf};
+ghost use Rattle.walks.specs.Walks.{listed, listing, roomOf};
 ghost use Rattle.questions.specs.Walking.{Walkable};
-ghost use Rattle.listing.specs.Listing.{Put, Lists, Lent};
-
-// The cells of a listed pair: x, y.
-const PER_PAIR: usize = 2;
+ghost use Rattle.listing.specs.Listing.{Lists, Lent};
 
 // What a listing says of itself: how many pairs it wrote, whether a match found no room, and the slots that it visited.
 pub struct Listing {
     pub count: u32,
     pub more: bool,
     pub visits: u32,
-}
-
-// How many pairs a lent slice has room for.
-fn room_of(out: &[u32]) -> usize
-    ensures { λ r. ⌜ r ≡ roomOf (now (out .entry)) ⌝ }
-{
-    out.len() / PER_PAIR
-}
-
-// The slot's own pair, if it is in range, is written where there is room. It is counted also where there is none: a count beyond the room stops the walk.
-fn list_own(out: &mut [u32], p: Pair, x0: u32, x1: u32, count: usize) -> usize
-    requires { ⌜ count ≤ roomOf (now out) ⌝ }
-    ensures { λ r. ⌜ Put (now (out .entry)) count (listOwn (inRange x0 x1 p) (roomOf (now (out .entry)) - count) p) (now (out .exit)) r ⌝ }
-{
-    if !in_range(p, x0, x1) {
-        return count;
-    }
-    if room_of(out) <= count {
-        return count + 1;
-    }
-    let at = count * PER_PAIR;
-    out[at] = p.x;
-    out[at + 1] = p.y;
-    count + 1
 }
 
 // The listing at a slot, with so many levels below it.

@@ -17,8 +17,8 @@ use Rattle.listing.proofs.+list_at+list_son.Lts-list_son as list-son-lt
 use Rattle.cells.proofs.left.Reads as left-reads
 use Rattle.cells.proofs.pair.Reads as pair-reads
 use Rattle.cells.proofs.right.Reads as right-reads
-use Rattle.listing.proofs.list_own.Reads as list-own-reads
-use Rattle.listing.proofs.room_of.Reads as room-of-reads
+use Rattle.jot.proofs.list_own.Reads as list-own-reads
+use Rattle.jot.proofs.room_of.Reads as room-of-reads
 use Rattle.stripes.proofs.Stripe.goes_left.Reads as goes-left-reads
 use Rattle.stripes.proofs.Stripe.left.Reads as Stripe-left-reads
 use Rattle.stripes.proofs.Stripe.right.Reads as Stripe-right-reads

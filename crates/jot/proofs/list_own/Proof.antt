@@ -1,11 +1,11 @@
--- Each way out is one law of ListWalk.antt: the pair is out of range, finds no room, or is written. It assumes a count within the room.
+-- Each way out is one law of Own.antt: the pair is out of range, finds no room, or is written. It assumes a count within the room.
 use native.Mathlib.Omega.{arith}
 use lib.ListN.{length-set}
 use borrow.Author.Tests.{not-true, not-false}
-use Rattle.listing.proofs.ListWalk.{own-out, own-counted, own-put}
+use Rattle.jot.proofs.Own.{own-out, own-counted, own-put}
 use borrow.Author.Needs.{needs}
-use Rattle.listing.proofs.list_own.Statement.{statement}
-use Rattle.listing.proofs.list_own.Tie as tie
+use Rattle.jot.proofs.list_own.Statement.{statement}
+use Rattle.jot.proofs.list_own.Tie as tie
 
 returns : tie.Need-returns
 returns c =

@@ -1,0 +1,2 @@
+-- The ways out for a slot's own pair.
+pub mod Own
