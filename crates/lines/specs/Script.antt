@@ -1,12 +1,10 @@
 -- What a line does to the pool and to the listing room, and what it prints.
-use Prim.Native.Nat.{ℕ, _+_, _*_, _/_, _%_}
+use Prim.Native.Nat.{ℕ, _+_, _*_, _/_}
 use mathlib.Core.Path.{_≡_}
 use mathlib.Core.Bool.{Bool, cond}
 use mathlib.Core.List.{List, [], _∷_, _++_}
 use lib.Dec.{ltb}
 use lib.ListN.{length, drop}
-use Rattle.kinds.specs.declared.Answer.{Answer}
-use Rattle.kinds.specs.Answer.{five}
 use Rattle.kinds.specs.Codes as codes
 use Rattle.kinds.specs.Promise.{Result, Promise, given}
 use Rattle.sound.specs.Promises.{behindCheck}
@@ -14,7 +12,8 @@ use Rattle.promises.specs.Promises.{opening, closing, firstToEnd, lastToEnd, li
 use Rattle.line.specs.declared.Asked.{Asked}
 use Rattle.line.specs.declared.Asked.the-variants.{Open, Close, First, Last, Covers, Malformed}
 use Rattle.line.specs.Line.{askedBy}
-use Rattle.text.specs.Text.{row, matchRows}
+use Rattle.text.specs.Text.{row}
+use Rattle.prints.specs.Rows.{codeRow, foundRow, listRows}
 use Rattle.lines.specs.declared.Told.{Told}
 use Rattle.lines.specs.declared.Told.the-variants.{Bytes, Short}
 
@@ -23,22 +22,6 @@ pub record Done : Type 0 where
   pub cells : List ℕ
   pub room : List ℕ
   pub bytes : List ℕ
-
--- the code alone
-abbrev pub codeRow : Answer → List ℕ
-codeRow a = row (five a .code ∷ [])
-
--- code, end, number, start, visits
-abbrev pub foundRow : Answer → List ℕ
-foundRow a = row (five a .code ∷ five a .x / 65536 ∷ five a .x % 65536 ∷ five a .y ∷ five a .visits ∷ [])
-
--- code, count, visits
-abbrev pub countRow : Answer → List ℕ
-countRow a = row (five a .code ∷ five a .count ∷ five a .visits ∷ [])
-
--- the count, and a line for each match
-abbrev pub listRows : Answer → List ℕ → List ℕ
-listRows a cells = countRow a ++ matchRows (five a .count) cells
 
 -- a change
 abbrev pub changeDone : (room : List ℕ) → Result → Done

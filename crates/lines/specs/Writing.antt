@@ -1,16 +1,14 @@
 -- How the code prints what is done.
 use Prim.Native.Nat.{ℕ, _≤_}
 use mathlib.Core.Path.{_≡_}
-use mathlib.Core.List.{List, [], _∷_}
+use mathlib.Core.List.{List}
 use lib.ListN.{length}
-use Rattle.kinds.specs.Answer.{refused}
 use Rattle.kinds.specs.Codes as codes
 use Rattle.sound.specs.Promises.{verdictOf}
 use Rattle.line.specs.declared.Asked.{Asked}
 use Rattle.line.specs.declared.Asked.the-variants.{Open, Close, First, Last, Covers, Malformed}
-use Rattle.text.specs.Text.{row}
 use Rattle.text.specs.Writing.{Puts}
-use Rattle.lines.specs.Script.{Done, foundRow, listRows}
+use Rattle.lines.specs.Script.{Done}
 
 -- what is done, printed from the first byte on within the lent bytes
 pub record Prints (d : Done) (o c room o′ : List ℕ) (r : ℕ) : Type 0 where
@@ -27,12 +25,3 @@ refusalOf c (First u) = verdictOf c
 refusalOf c (Last u e) = verdictOf c
 refusalOf c (Covers u) = verdictOf c
 refusalOf c Malformed = codes.malformed
-
--- what such a line prints: the code, and a 0 for each number that the line would have
-unfoldable pub refusedRows : (room : List ℕ) (code : ℕ) → Asked → List ℕ
-refusedRows room code (Open start end number) = row (code ∷ [])
-refusedRows room code (Close start end number) = row (code ∷ [])
-refusedRows room code (First u) = foundRow (refused code)
-refusedRows room code (Last u e) = foundRow (refused code)
-refusedRows room code (Covers u) = listRows (refused code) room
-refusedRows room code Malformed = row (code ∷ [])

@@ -20,13 +20,13 @@ fn refusal(pool: &[u32], asked: Asked) -> u32
 pub fn answer_line(pool: &mut [u32], room: &mut [u32], bytes: &[u8], output: &mut [u8]) -> Told
     ensures { λ r. ⌜ LineKept (lineAnswered (now (pool .entry)) (now (room .entry)) (now (bytes .entry)) (now (output .entry))) (now (pool .exit)) (now (room .exit)) (now (output .exit)) r ⌝ }
 {
-    if lines::too_short(room.len(), output.len()) {
+    if prints::too_short(room.len(), output.len()) {
         return Told::Short;
     }
     let asked = line::read_line(bytes);
     let code = refusal(pool, asked);
     if code != codes::DONE {
-        return Told::Bytes(lines::put_refused(output, room, asked, code));
+        return Told::Bytes(prints::put_refused(output, room, asked, code));
     }
     let end = lines::perform(pool, room, output, asked);
     Told::Bytes(end)

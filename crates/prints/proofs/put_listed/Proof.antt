@@ -3,10 +3,10 @@ use Prim.Native.Nat.{_+_, _*_, _/_}
 use native.Mathlib.Omega.{arith}
 use lib.ListN.{length}
 use Rattle.text.proofs.Printing.{room-behind}
-use Rattle.lines.proofs.Answering.{listed-put}
+use Rattle.prints.proofs.Putting.{listed-put}
 use borrow.Author.Needs.{needs}
-use Rattle.lines.proofs.put_listed.Statement.{statement}
-use Rattle.lines.proofs.put_listed.Tie as tie
+use Rattle.prints.proofs.put_listed.Statement.{statement}
+use Rattle.prints.proofs.put_listed.Tie as tie
 
 put-number-requires-2 : tie.Need-put-number-requires-2
 put-number-requires-2 c κs =

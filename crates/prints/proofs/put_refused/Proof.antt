@@ -1,8 +1,8 @@
 -- By what is asked: a refused line prints what its kind prints, by the code alone. It assumes room for what a line can print.
-use Rattle.lines.specs.Writing.{refusedRows}
+use Rattle.prints.specs.Refused.{refusedRows}
 use borrow.Author.Needs.{needs}
-use Rattle.lines.proofs.put_refused.Statement.{statement}
-use Rattle.lines.proofs.put_refused.Tie as tie
+use Rattle.prints.proofs.put_refused.Statement.{statement}
+use Rattle.prints.proofs.put_refused.Tie as tie
 
 returns : tie.Need-returns
 unfolding refusedRows

@@ -1,8 +1,8 @@
 -- A row of one number. It assumes room for 55 bytes.
 use Rattle.text.specs.Text.{row}
 use borrow.Author.Needs.{needs}
-use Rattle.lines.proofs.put_code.Statement.{statement}
-use Rattle.lines.proofs.put_code.Tie as tie
+use Rattle.prints.proofs.put_code.Statement.{statement}
+use Rattle.prints.proofs.put_code.Tie as tie
 
 returns : tie.Need-returns
 unfolding row

@@ -1,10 +1,10 @@
 -- Five numbers, three of them a strip's. It assumes room for 55 bytes.
 use native.Mathlib.Omega.{arith}
 use Rattle.text.proofs.Printing.{room-behind, room-behind-strip}
-use Rattle.lines.proofs.Answering.{found-put}
+use Rattle.prints.proofs.Putting.{found-put}
 use borrow.Author.Needs.{needs}
-use Rattle.lines.proofs.put_found.Statement.{statement}
-use Rattle.lines.proofs.put_found.Tie as tie
+use Rattle.prints.proofs.put_found.Statement.{statement}
+use Rattle.prints.proofs.put_found.Tie as tie
 
 put-strip-requires : tie.Need-put-strip-requires
 put-strip-requires c κs = room-behind _ _ _ _ _ _ 33 (c .before .before .before .put-number .ensures) (omega (arith, c .before .before .before .before .before .before .before .pre))

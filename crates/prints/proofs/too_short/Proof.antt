@@ -1,7 +1,7 @@
 -- The sum of the definition, turned round so that it cannot wrap. Nothing is assumed.
-use Rattle.lines.proofs.Answering.{few-bytes, enough-bytes}
-use Rattle.lines.proofs.too_short.Statement.{statement}
-use Rattle.lines.proofs.too_short.Tie as tie
+use Rattle.prints.proofs.Putting.{few-bytes, enough-bytes}
+use Rattle.prints.proofs.too_short.Statement.{statement}
+use Rattle.prints.proofs.too_short.Tie as tie
 
 returns : tie.Need-returns
 returns c = few-bytes _ _ (c .if1 .taken)
