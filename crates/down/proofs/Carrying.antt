@@ -1,13 +1,12 @@
 -- A pair that goes down, a level at a time: at an empty place it takes the free slot; at a slot the better pair stays, the beaten one can go
 -- down from the son's place on its side, and where it has, the first has gone down here. It assumes that the first can (`Going`).
-use Prim.Native.Nat.{ℕ, suc, _+_, _*_, _-_, _≤_, _<_}
+use Prim.Native.Nat.{ℕ, suc, _-_, _≤_, _<_}
 use mathlib.Core.Path.{_≡_, refl, sym, ap, _∙_, subst}
 use mathlib.Core.Logic.{_≢_, ⊎-elim}
 use mathlib.Core.Bool.{Bool, true, false, not}
 use mathlib.Core.List.{List}
 use native.Mathlib.Omega.{arith}
 use lib.ListN.{getD}
-use lib.Seq.{set-getD}
 use Rattle.kinds.specs.declared.Pair.{Pair}
 use Rattle.kinds.specs.Pairs.{beats}
 use Rattle.stripes.specs.Stripe.{Stripe, In}
@@ -15,7 +14,7 @@ use Rattle.stripes.specs.Heights.{stripeAt}
 use Rattle.trees.specs.Tree.{Tree, All, Under, Well, itself}
 use Rattle.trees.specs.Standing.{Stands, New}
 use Rattle.trees.specs.Changes.{goDown}
-use Rattle.pools.specs.Cells.{perSlot, freeOf, pairAt, rightAt, putPair}
+use Rattle.pools.specs.Cells.{freeOf, pairAt, rightAt, putPair}
 use Rattle.pools.specs.Links.{Fits, linkCell}
 use Rattle.kinds.proofs.Tests.{on}
 use Rattle.stripes.proofs.Heights.{in-at, same-at}
@@ -28,22 +27,9 @@ use Rattle.way.specs.Way.{treeThere}
 use Rattle.way.proofs.Links.{link-slot}
 use Rattle.way.proofs.Sides.{forkOn, sonTree, sideOf, part-side, inside-slot, level-below, Outside, Well-on, well-on, new-near}
 use Rattle.way.proofs.Replacing.{Paired, paired-put, there-on, son-distinct, outside-on, son-tree, son-place, replaced-up}
-use Rattle.down.specs.Down.{Going, Carried, stays, goesOn, Settled, Room, freeTaken}
+use Rattle.seat.specs.Seat.{stays, goesOn, Settled, Room, freeTaken}
+use Rattle.down.specs.Down.{Going, Carried}
 use Rattle.down.proofs.Taking.{taken-first, taken-replaced}
-
--- where two pairs meet, as the code settles it
-module _ {c : List ℕ} {s : ℕ} {p q : Pair} {t : Bool} (eq : q ≡ pairAt c s) (et : t ≡ beats p q) where
-  pub settle-swap : {d : List ℕ} → t ≡ true → d ≡ putPair c s p → Settled c s p d q
-  unfolding stays goesOn
-  settle-swap h e =
-      let f : beats p (pairAt c s) ≡ true = rw eq at (sym et ∙ h) in
-      record { cells = rw f e; goes = rw f eq }
-
-  pub settle-keep : t ≡ false → Settled c s p c p
-  unfolding stays goesOn
-  settle-keep h =
-      let f : beats p (pairAt c s) ≡ false = rw eq at (sym et ∙ h) in
-      record { cells = rw (f, set-getD c (s * perSlot) 0, set-getD c (s * perSlot + 1) 0); goes = rw f }
 
 -- law: the pair that goes on lies in the stripe, is new below, and goes down on its side
 module _ (p q : Pair) where

@@ -10,18 +10,12 @@ use lib.Seq.{getD-set-same, getD-set-other}
 use Rattle.kinds.specs.declared.Pair.{Pair}
 use Rattle.trees.specs.Tree.{none, fork}
 use Rattle.trees.specs.Standing.{at-top}
-use Rattle.pools.specs.Cells.{perSlot, freeOf, rightAt, putPair, putLinks}
+use Rattle.pools.specs.Cells.{perSlot, freeOf, rightAt}
 use Rattle.pools.specs.Sound.{nowhere}
 use Rattle.pools.proofs.Agreement.{SlotHolds, holds-agree, same-slot, slot-as, slot-fits, putSlot, slot-wrote, slot-read}
 use Rattle.way.specs.Way.{Replaced}
 use Rattle.way.proofs.Links.{agree-cells, agree-get}
-use Rattle.down.specs.Down.{Room, freeTaken}
-
--- as the code takes it
-pub took : (c d d′ d″ : List ℕ) (cell s n : ℕ) (p : Pair) → s ≡ freeOf c → n ≡ rightAt c s → d ≡ putPair c s p → d′ ≡ putLinks d s 0 0 → d″ ≡ set d′ 2 n
-    → set d″ cell s ≡ freeTaken c cell p
-unfolding freeTaken
-took c d d′ d″ cell s n p es en e e′ e″ = rw (e″, e′, e, en, es)
+use Rattle.seat.specs.Seat.{Room, freeTaken}
 
 module _ {c : List ℕ} {cell : ℕ} (p : Pair) (r : Room c cell) (away : cell / perSlot ≢ freeOf c) (other : cell ≢ 2) where
   abbrev f : ℕ

@@ -3,37 +3,10 @@ use kinds::Pair;
 use stripes::Stripe;
 ghost use mathlib.Core.Path.{_≡_};
 ghost use Rattle.pools.specs.Cells.{stored};
-ghost use Rattle.pools.specs.Links.{Fits};
 ghost use Rattle.pools.specs.Laid.{inserted};
 ghost use Rattle.plain.specs.Plain.{hasX};
 ghost use Rattle.pools.specs.Sound.{Sound};
-ghost use Rattle.down.specs.Down.{Enters, Going, Carried, Settled, Room, freeTaken};
-
-// Where a pair meets a slot's, the better one stays there, and the beaten one goes on.
-fn settle(pool: &mut [u32], slot: u32, p: Pair) -> Pair
-    requires { ⌜ Fits (now pool) slot ⌝ }
-    ensures { λ r. ⌜ Settled (now (pool .entry)) slot p (now (pool .exit)) r ⌝ }
-{
-    let met = cells::pair(pool, slot);
-    if p.beats(met) {
-        cells::put_pair(pool, slot, p);
-        return met;
-    }
-    p
-}
-
-// The first free slot is taken for a pair, and linked from a cell.
-fn take_free(pool: &mut [u32], cell: usize, p: Pair)
-    requires { ⌜ Room (now pool) cell ⌝ }
-    ensures { λ _. ⌜ now (pool .exit) ≡ freeTaken (now (pool .entry)) cell p ⌝ }
-{
-    let slot = cells::first_free(pool);
-    let next = cells::right(pool, slot);
-    cells::put_pair(pool, slot, p);
-    cells::put_links(pool, slot, 0, 0);
-    cells::put_first_free(pool, next);
-    pool[cell] = slot;
-}
+ghost use Rattle.down.specs.Down.{Enters, Going, Carried};
 
 // A pair goes down from the place whose link is in a cell, with so many levels below it: at each slot a bit of x says the side.
 fn carry(pool: &mut [u32], levels: u32, cell: usize, p: Pair)
@@ -42,10 +15,10 @@ fn carry(pool: &mut [u32], levels: u32, cell: usize, p: Pair)
 {
     let slot = pool[cell];
     if slot == 0 {
-        take_free(pool, cell, p);
+        seat::take_free(pool, cell, p);
         return;
     }
-    let beaten = settle(pool, slot, p);
+    let beaten = seat::settle(pool, slot, p);
     carry(
         pool,
         levels - 1,

@@ -25,14 +25,10 @@ use Rattle.way.specs.Way.{treeThere}
 use Rattle.way.proofs.Links.{link-inside, link-son, agree-get, cell-agree}
 use Rattle.way.proofs.Sides.{sonTree}
 use Rattle.way.proofs.Replacing.{Paired, paired-put, there-on, son-tree, son-place, replaced-near}
-use Rattle.hole.specs.Hole.{Sons, Heirs, Promotes, promoted, Releases, released, Hole, Freed}
+use Rattle.heirs.specs.Heirs.{Sons, Heirs, Promotes, promoted, Releases, released}
+use Rattle.hole.specs.Hole.{Hole, Freed}
 use Rattle.hole.proofs.Cuts.{cutOn, Wins, alone, over, fill-on}
-use Rattle.hole.proofs.Heirs.{Heired, heired, childless, won}
-
--- as the code releases a slot
-pub released-by : (c : List ℕ) (cell s : ℕ) {b d : List ℕ} {first : ℕ} → first ≡ freeOf c → b ≡ putFree (set c cell 0) s first → d ≡ set b 2 s → d ≡ released c cell s
-unfolding released
-released-by c cell s ef eb ed = rw (eb, ef) at ed
+use Rattle.hole.proofs.Heired.{Heired, heired, childless, won}
 
 module _ {c : List ℕ} {k cell : ℕ} (o : Hole c k cell) where
   abbrev s : ℕ

@@ -1,5 +1,5 @@
 -- The laws that the proofs of the deletion cite.
 pub mod Cuts
-pub mod Heirs
+pub mod Heired
 pub mod Filling
 pub mod Deletion

@@ -9,8 +9,8 @@ use Rattle.down.proofs.carry.Reads as carry
 use Rattle.down.proofs.carry.Kinds as carry-kinds
 use Rattle.down.proofs.+carry.Lts-carry as carry-lts
 use Rattle.cells.proofs.link_cell.Reads as link-cell-reads
-use Rattle.down.proofs.settle.Reads as settle-reads
-use Rattle.down.proofs.take_free.Reads as take-free-reads
+use Rattle.seat.proofs.settle.Reads as settle-reads
+use Rattle.seat.proofs.take_free.Reads as take-free-reads
 use Rattle.stripes.proofs.Stripe.is_left.Reads as is-left-reads
 use Rattle.down.proofs.+carry.{statement}
 use Rattle.down.proofs.+carry.Tie.{close}

@@ -9,9 +9,9 @@ use borrow.Fn.PlainCycle.{Measures, is, falls, and}
 use Rattle.hole.proofs.fill.Reads as fill
 use Rattle.hole.proofs.fill.Kinds as fill-kinds
 use Rattle.hole.proofs.+fill.Lts-fill as fill-lts
-use Rattle.hole.proofs.heir.Reads as heir-reads
-use Rattle.hole.proofs.promote.Reads as promote-reads
-use Rattle.hole.proofs.release.Reads as release-reads
+use Rattle.heirs.proofs.heir.Reads as heir-reads
+use Rattle.heirs.proofs.promote.Reads as promote-reads
+use Rattle.heirs.proofs.release.Reads as release-reads
 use Rattle.hole.proofs.+fill.{statement}
 use Rattle.hole.proofs.+fill.Tie.{close}
 

@@ -1,8 +1,8 @@
 -- The test picks the pair that stays. It assumes that the slot's cells are there.
-use Rattle.down.proofs.Carrying.{settle-swap, settle-keep}
+use Rattle.seat.proofs.Seating.{settle-swap, settle-keep}
 use borrow.Author.Needs.{needs}
-use Rattle.down.proofs.settle.Statement.{statement}
-use Rattle.down.proofs.settle.Tie as tie
+use Rattle.seat.proofs.settle.Statement.{statement}
+use Rattle.seat.proofs.settle.Tie as tie
 
 returns : tie.Need-returns
 returns c =

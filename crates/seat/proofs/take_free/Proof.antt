@@ -1,10 +1,10 @@
 -- The stores, one after the other. It assumes that there is a free slot, and a cell for the link to it.
 use mathlib.Core.Path.{_∙_}
 use lib.ListN.{length-set}
-use Rattle.down.proofs.Taking.{took}
+use Rattle.seat.proofs.Seating.{took}
 use borrow.Author.Needs.{needs}
-use Rattle.down.proofs.take_free.Statement.{statement}
-use Rattle.down.proofs.take_free.Tie as tie
+use Rattle.seat.proofs.take_free.Statement.{statement}
+use Rattle.seat.proofs.take_free.Tie as tie
 
 same-length : tie.Need-same-length
 same-length c =

@@ -1,8 +1,8 @@
 -- The heir's pair moves up. It assumes that the cells of both slots are there, and that of the link.
-use Rattle.hole.specs.Hole.{promoted}
+use Rattle.heirs.specs.Heirs.{promoted}
 use borrow.Author.Needs.{needs}
-use Rattle.hole.proofs.promote.Statement.{statement}
-use Rattle.hole.proofs.promote.Tie as tie
+use Rattle.heirs.proofs.promote.Statement.{statement}
+use Rattle.heirs.proofs.promote.Tie as tie
 
 returns : tie.Need-returns
 unfolding promoted

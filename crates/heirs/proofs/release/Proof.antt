@@ -2,10 +2,10 @@
 use mathlib.Core.Path.{_∙_}
 use native.Mathlib.Omega.{arith}
 use lib.ListN.{length-set}
-use Rattle.hole.proofs.Filling.{released-by}
+use Rattle.heirs.proofs.Finding.{released-by}
 use borrow.Author.Needs.{needs}
-use Rattle.hole.proofs.release.Statement.{statement}
-use Rattle.hole.proofs.release.Tie as tie
+use Rattle.heirs.proofs.release.Statement.{statement}
+use Rattle.heirs.proofs.release.Tie as tie
 
 put-first-free-requires : tie.Need-put-first-free-requires
 put-first-free-requires c κs = omega (arith, c .before .before .before .put-free .kept .0, simp length-set at (c .before .before .before .put-free .kept .0), c .before .before .before .before .before .before .before .before .pre .slot)

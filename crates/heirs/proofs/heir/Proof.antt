@@ -1,9 +1,9 @@
--- Each way out is one law of Heirs.antt: no son, the right one alone, the left one alone, or both and the better. It assumes that the cells
+-- Each way out is one law of Finding.antt: no son, the right one alone, the left one alone, or both and the better. It assumes that the cells
 -- of the slot and of its sons are there.
-use Rattle.hole.proofs.Heirs.{no-heir, only-right, only-left, both-sons}
+use Rattle.heirs.proofs.Finding.{no-heir, only-right, only-left, both-sons}
 use borrow.Author.Needs.{needs}
-use Rattle.hole.proofs.heir.Statement.{statement}
-use Rattle.hole.proofs.heir.Tie as tie
+use Rattle.heirs.proofs.heir.Statement.{statement}
+use Rattle.heirs.proofs.heir.Tie as tie
 
 returns : tie.Need-returns
 returns c =

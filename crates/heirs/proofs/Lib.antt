@@ -1,0 +1,2 @@
+-- The laws that the proofs of the three functions cite.
+pub mod Finding

@@ -1,0 +1,2 @@
+-- The laws that the proofs of the two functions cite.
+pub mod Seating
