@@ -1,4 +1,4 @@
--- Writing the book of a sound pool, a way out at a time.
+-- Writing the book, a way out at a time: too few bytes are refused; else the head and then the rows make the book. Assumed is a sound pool.
 use Prim.Native.Nat.{ℕ, _+_, _*_, _≤_, _<_}
 use mathlib.Core.Path.{_≡_, refl, sym, _∙_}
 use mathlib.Core.List.{List, [], _∷_}

@@ -1,4 +1,4 @@
--- A walk's start at the root of a sound pool, and its end.
+-- A walk's start at the root, and its end: what the walk at the root finds is what the whole tree gives. Assumed is a sound pool.
 use Prim.Native.Nat.{ℕ, _≤_}
 use mathlib.Core.Path.{_≡_, sym, _∙_}
 use mathlib.Core.List.{List}

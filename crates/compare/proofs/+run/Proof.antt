@@ -1,4 +1,4 @@
--- `compare::run` is safe and ends: the measure is the turns that are left.
+-- `compare::run` is safe and ends: the measure is the turns that are left. Nothing is assumed.
 use borrow.Author.Needs.{needs}
 use Prim.Native.Nat.{ℕ, _-_, _<_, _≤_}
 use mathlib.Core.Path.{_≡_}

@@ -1,4 +1,4 @@
--- `compare::litter` is safe and ends: the measure is the cells that are left.
+-- `compare::litter` is safe and ends: the measure is the cells that are left. Nothing is assumed.
 use borrow.Author.Needs.{needs}
 use Prim.Native.Nat.{_-_}
 use Rattle.compare.proofs.litter.Statement.{statement}

@@ -1,4 +1,4 @@
--- `compare::lives` is safe and ends: the measure is the lives that are left.
+-- `compare::lives` is safe and ends: the measure is the lives that are left. Nothing is assumed.
 use borrow.Author.Needs.{needs}
 use Prim.Native.Nat.{_-_}
 use native.Mathlib.Omega.{arith}

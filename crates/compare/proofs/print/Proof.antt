@@ -1,4 +1,4 @@
--- `compare::print` is safe and ends: the measure is the letters that are left.
+-- `compare::print` is safe and ends: the measure is the letters that are left. Nothing is assumed.
 use borrow.Author.Needs.{needs}
 use Prim.Native.Nat.{_-_}
 use Rattle.compare.proofs.print.Statement.{statement}

@@ -1,4 +1,4 @@
--- From the root of a sound pool, unless it is empty.
+-- Without a root nothing is found; else the walk from the root answers. It assumes a sound pool.
 use Rattle.questions.proofs.Top.{header, root-here, top-none, top-walked}
 use Rattle.lowest.proofs.YWalk.{smallestY-empty}
 use Rattle.walks.specs.Walks.{smallestY}

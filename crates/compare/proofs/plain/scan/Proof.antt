@@ -1,4 +1,4 @@
--- `compare::plain::scan` is safe and ends: the measure is the rows that are left.
+-- `compare::plain::scan` is safe and ends: the measure is the rows that are left. Nothing is assumed.
 use borrow.Author.Needs.{needs}
 use Prim.Native.Nat.{_-_}
 use Rattle.compare.proofs.plain.scan.Statement.{statement}

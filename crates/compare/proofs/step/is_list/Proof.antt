@@ -1,4 +1,4 @@
--- `compare::step::is_list` is safe and ends: the measure is the pairs of cells that are left.
+-- `compare::step::is_list` is safe and ends: the measure is the pairs of cells that are left. Nothing is assumed.
 use borrow.Author.Needs.{needs}
 use Prim.Native.Nat.{_-_}
 use Rattle.compare.proofs.step.is_list.Statement.{statement}
