@@ -23,7 +23,7 @@ use Rattle.kinds.proofs.Tests.{and-true, and-false}
 use Rattle.pools.proofs.Inserted.{inserted-sound}
 use Rattle.pools.proofs.Deleted.{deleted-sound}
 use Rattle.down.specs.Down.{Enters}
-use Rattle.hole.specs.Hole.{Deletes, missing, other, done}
+use Rattle.hole.specs.Hole.{Deletes, not-there, other-y, removed}
 use Rattle.hole.specs.declared.Removal.{Removal}
 use Rattle.hole.specs.declared.Removal.the-variants.{Done, Missing, Other}
 use Rattle.promises.specs.Checked.{Changed}
@@ -64,15 +64,15 @@ removalCode Other = codes.other
 module _ (c : List ℕ) (p : Pair) (s : Sound c) where
   pub delete-ends : {m : Removal} {d : List ℕ} → Deletes c p m d → (k : ℕ) → removalCode m ≡ k → Changed (deletion c p) c (ended k) d
   unfolding deletion plainDelete ended
-  delete-ends (missing f) k e = rw (← e) (record {
+  delete-ends (not-there f) k e = rw (← e) (record {
     keeps = refuses [] (missingLine p (bookOf c)) (otherLine p (bookOf c) ∷ []) tt (ap not f) refl;
     sound = s;
   })
-  delete-ends (other t f) k e = rw (← e) (record {
+  delete-ends (other-y t f) k e = rw (← e) (record {
     keeps = refuses (missingLine p (bookOf c) ∷ []) (otherLine p (bookOf c)) [] (ap not t, tt) (and-true t (ap not f)) refl;
     sound = s;
   })
-  delete-ends (done t) k e =
+  delete-ends (removed t) k e =
       let m = has-mem s p t in
       let h = mem-hasX s p m in
       rw (← e) (record {

@@ -26,7 +26,7 @@ use Rattle.way.proofs.Links.{cell-agree}
 use Rattle.way.proofs.Counting.{count-written}
 use Rattle.way.proofs.Ways.{place-there, mem-there, stored-there, missing-there, replaced-root}
 use Rattle.hole.specs.declared.Removal.the-variants.{Done, Missing, Other}
-use Rattle.hole.specs.Hole.{Hole, Freed, Deletes, missing, other, done}
+use Rattle.hole.specs.Hole.{Hole, Freed, Deletes, not-there, other-y, removed}
 use Rattle.hole.proofs.Cuts.{cut-there}
 
 some-size : {q : Pair} {t : Tree Pair} → Mem q t → 1 ≤ size t
@@ -49,7 +49,7 @@ module _ {c : List ℕ} (s : Sound c) where
   module _ (p : Pair) {k cell : ℕ} (E : WayEnds c (p .x) k cell) where
     -- law: the place is empty
     pub ends-missing : getD c cell 0 ≡ 0 → Deletes c p Missing c
-    ends-missing z = missing (missing-there s E z)
+    ends-missing z = not-there (missing-there s E z)
 
     module _ (ne : getD c cell 0 ≢ 0) where
       module _ {q : Pair} (eq : q ≡ pairAt c (getD c cell 0)) where
@@ -61,7 +61,7 @@ module _ {c : List ℕ} (s : Sound c) where
 
         -- law: x is stored with another y
         pub ends-other : q .y ≢ p .y → Deletes c p Other c
-        ends-other ny = other (stored-there s E ne) (on (has p (stored c)) (λ t. absurd (ny (ap (λ q. q .y) (same-pair there (has-mem s p t) same-x)))) (λ t. t))
+        ends-other ny = other-y (stored-there s E ne) (on (has p (stored c)) (λ t. absurd (ny (ap (λ q. q .y) (same-pair there (has-mem s p t) same-x)))) (λ t. t))
 
         -- the pair itself
         module _ (ey : q .y ≡ p .y) where
@@ -94,4 +94,4 @@ module _ {c : List ℕ} (s : Sound c) where
 
               -- law: the pair is taken out
               pub ends-done : {d′ : List ℕ} → d′ ≡ set d 3 (n - 1) → Deletes c p Done d′
-              ends-done h = rw (h, deleted-one s p member changed given) (done (mem-has s p member))
+              ends-done h = rw (h, deleted-one s p member changed given) (removed (mem-has s p member))

@@ -31,6 +31,6 @@ pub record Freed (c : List ℕ) (k cell : ℕ) (d : List ℕ) : Type 0 where
 
 -- how a deletion ends, over the stored list
 pub data Deletes (c : List ℕ) (p : Pair) : Removal → List ℕ → Type 0 where
-  missing : hasX (p .x) (stored c) ≡ false → Deletes c p Missing c
-  other : hasX (p .x) (stored c) ≡ true → has p (stored c) ≡ false → Deletes c p Other c
-  done : has p (stored c) ≡ true → Deletes c p Done (deleted c (p .x))
+  not-there : hasX (p .x) (stored c) ≡ false → Deletes c p Missing c
+  other-y : hasX (p .x) (stored c) ≡ true → has p (stored c) ≡ false → Deletes c p Other c
+  removed : has p (stored c) ≡ true → Deletes c p Done (deleted c (p .x))

@@ -5,7 +5,7 @@ use mathlib.Core.Bool.{cond}
 use mathlib.Core.List.{List, [], _∷_}
 use lib.ListN.{length, set}
 use Rattle.kinds.specs.declared.Pair.{Pair}
-use Rattle.walks.specs.Walks.{Listed}
+use Rattle.walks.specs.Walks.{ListWalked}
 
 -- a pair written at place n, two cells: x, y
 abbrev pub putOne : List ℕ → ℕ → Pair → List ℕ
@@ -17,6 +17,6 @@ putAll o n [] = o
 putAll o n (p ∷ ps) = putAll (putOne o n p) (suc n) ps
 
 -- what w lists was put into the cells o from place n on: o′ are the cells then, and n has become n′, one more where a match found no room
-pub record Put (o : List ℕ) (n : ℕ) (w : Listed) (o′ : List ℕ) (n′ : ℕ) : Type 0 where
+pub record Put (o : List ℕ) (n : ℕ) (w : ListWalked) (o′ : List ℕ) (n′ : ℕ) : Type 0 where
   pub count : n′ ≡ n + length (w .pairs) + cond (w .more) 1 0
   pub cells : o′ ≡ putAll o n (w .pairs)

@@ -4,7 +4,7 @@ use questions::in_range;
 ghost use mathlib.Core.Path.{_≡_};
 ghost use Prim.Native.Nat.{_-_, _≤_};
 ghost use Rattle.plain.specs.Plain.{inRange};
-ghost use Rattle.walks.specs.Walks.{listed, listOwn, roomOf};
+ghost use Rattle.walks.specs.Walks.{listOwn, roomOf};
 ghost use Rattle.jot.specs.Jotting.{Put};
 
 // The cells of a listed pair: x, y.

@@ -12,18 +12,18 @@ use Rattle.kinds.specs.declared.Pair.{Pair}
 use Rattle.plain.specs.Plain.{matches}
 use Rattle.stripes.specs.Stripe.{Stripe, middle, leftPart, rightPart}
 use Rattle.trees.specs.Tree.{Tree, none, fork}
-use Rattle.walks.specs.Walks.{Listed, listed, andThen, listOwn, listing, roomOf, flat, written}
+use Rattle.walks.specs.Walks.{ListWalked, listWalked, andThen, listOwn, listing, roomOf, flat, written}
 use Rattle.kinds.proofs.Tests.{on, clash}
 use Rattle.jot.specs.Jotting.{putOne, putAll, Put}
 use Rattle.listing.specs.Listing.{Lists}
 
 -- a listing into so much room: it lists no more than that, all of it where a match found none, and each pair took a visit
-pub record Fills (room : ℕ) (w : Listed) : Type 0 where
+pub record Fills (room : ℕ) (w : ListWalked) : Type 0 where
   pub few : length (w .pairs) ≤ room
   pub full : w .more ≡ true → length (w .pairs) ≡ room
   pub each : length (w .pairs) ≤ w .visits
 
-fills-nothing : (room v : ℕ) → Fills room (listed [] false v)
+fills-nothing : (room v : ℕ) → Fills room (listWalked [] false v)
 fills-nothing room v = record { few = omega arith; full = λ e. absurd (clash e refl); each = omega arith }
 
 pub fills-own : (b : Bool) (room : ℕ) (p : Pair) → Fills room (listOwn b room p)
@@ -36,7 +36,7 @@ own-visits false room p = refl
 own-visits true zero p = refl
 own-visits true (suc room) p = refl
 
-fills-then : (room : ℕ) (a b : Listed) → Fills room a → Fills (room - length (a .pairs)) b → Fills room (andThen a b)
+fills-then : (room : ℕ) (a b : ListWalked) → Fills room a → Fills (room - length (a .pairs)) b → Fills room (andThen a b)
 fills-then room a b ha hb = on (a .more)
     (λ t. rw t (record { few = ha .few; full = λ e. ha .full t; each = ha .each }))
     (λ f. rw f (record {
@@ -45,7 +45,7 @@ fills-then room a b ha hb = on (a .more)
       each = simp length-append (omega (arith, ha .each, hb .each));
     }))
 
-pub fills-ask : (go : Bool) (room : ℕ) (a : Listed) → Fills room a → Fills room (cond go a (listed [] false 0))
+pub fills-ask : (go : Bool) (room : ℕ) (a : ListWalked) → Fills room a → Fills room (cond go a (listWalked [] false 0))
 fills-ask true room a h = h
 fills-ask false room a h = fills-nothing room 0
 
@@ -90,7 +90,7 @@ put-written o ps h =
     put-sets o 0 ps ∙ sets-eq (flat ps) o 0 (omega arith) ∙ ap (λ k. flat ps ++ drop k o) e
 
 -- the room stays
-module _ (o : List ℕ) (n : ℕ) (w : Listed) (o′ : List ℕ) (n′ : ℕ) (P : Put o n w o′ n′) where
+module _ (o : List ℕ) (n : ℕ) (w : ListWalked) (o′ : List ℕ) (n′ : ℕ) (P : Put o n w o′ n′) where
   pub same-room : roomOf o′ ≡ roomOf o
   same-room = rw (P .cells) (let z = length-put o n (w .pairs) in omega arith)
 
@@ -98,7 +98,7 @@ module _ (o : List ℕ) (n : ℕ) (w : Listed) (o′ : List ℕ) (n′ : ℕ) (P
   still-fits room e b = let z = same-room in omega arith
 
 -- after a listing into the room from place n on
-module _ (o : List ℕ) (n : ℕ) (w : Listed) (o′ : List ℕ) (n′ : ℕ) (h : n ≤ roomOf o) (f : Fills (roomOf o - n) w) (P : Put o n w o′ n′) where
+module _ (o : List ℕ) (n : ℕ) (w : ListWalked) (o′ : List ℕ) (n′ : ℕ) (h : n ≤ roomOf o) (f : Fills (roomOf o - n) w) (P : Put o n w o′ n′) where
   pub stopped : roomOf o < n′ → w .more ≡ true
   stopped b = on (w .more) (λ t. t) (λ e.
       let z : n′ ≡ n + length (w .pairs) + 0 = rw e at (P .count) in
@@ -119,7 +119,7 @@ module _ (o : List ℕ) (n : ℕ) (w : Listed) (o′ : List ℕ) (n′ : ℕ) (h
     left-over = let z = next-place in let r = same-room o n w o′ n′ P in omega arith
 
 -- one after the other
-module _ (o : List ℕ) (n v : ℕ) (a b : Listed) (o′ : List ℕ) (n′ v′ : ℕ) (A : Lists o n v a o′ n′ v′) where
+module _ (o : List ℕ) (n v : ℕ) (a b : ListWalked) (o′ : List ℕ) (n′ v′ : ℕ) (A : Lists o n v a o′ n′ v′) where
   pub lists-stopped : a .more ≡ true → Lists o n v (andThen a b) o′ n′ v′
   lists-stopped t = rw t (record {
     put = record { count = let z : n′ ≡ n + length (a .pairs) + 1 = rw t at (A .put .count) in z; cells = A .put .cells };
@@ -139,6 +139,6 @@ module _ (o : List ℕ) (n v : ℕ) (a b : Listed) (o′ : List ℕ) (n′ v′ 
       })
 
 -- nothing listed, at k visits
-pub lists-nothing : (o : List ℕ) (n v k : ℕ) → Lists o n v (listed [] false k) o n (v + k)
+pub lists-nothing : (o : List ℕ) (n v k : ℕ) → Lists o n v (listWalked [] false k) o n (v + k)
 unfolding putAll
 lists-nothing o n v k = record { put = record { count = omega arith; cells = refl }; visits = refl }

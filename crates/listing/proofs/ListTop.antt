@@ -10,7 +10,7 @@ use Rattle.pools.specs.Cells.{rootOf, treeAt}
 use Rattle.plain.specs.Plain.{limits}
 use Rattle.pools.specs.Sound.{Sound}
 use Rattle.stripes.specs.Stripe.{allLevels, Stripe, rootStripe}
-use Rattle.walks.specs.Walks.{Listed, listing, roomOf}
+use Rattle.walks.specs.Walks.{ListWalked, listing, roomOf}
 use Rattle.walks.proofs.Sizes.{listing-size}
 use Rattle.listing.specs.declared.Listing.{Listing}
 use Rattle.questions.specs.Walking.{Walkable}
@@ -28,7 +28,7 @@ module _ (c : List ℕ) (S : Sound c) (s : ℕ) (at : Stripe) (es : s ≡ rootOf
     abbrev q : Limits
     q = limits x0 x1 y1
 
-    abbrev W : Listed
+    abbrev W : ListWalked
     W = listing q rootStripe (treeAt c allLevels (rootOf c)) (roomOf o)
 
     whole : roomOf o - 0 ≡ roomOf o

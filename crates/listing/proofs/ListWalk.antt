@@ -13,7 +13,7 @@ use Rattle.pools.specs.Cells.{pairAt, leftAt, rightAt, treeAt}
 use Rattle.plain.specs.Plain.{limits, inRange, matches}
 use Rattle.stripes.specs.Stripe.{Stripe, middle, leftPart, rightPart}
 use Rattle.trees.specs.Tree.{size}
-use Rattle.walks.specs.Walks.{Listed, listed, andThen, listOwn, listing, roomOf}
+use Rattle.walks.specs.Walks.{ListWalked, listWalked, andThen, listOwn, listing, roomOf}
 use Rattle.kinds.proofs.Tests.{on}
 use Rattle.pools.proofs.Leads.{back, tree-none, tree-fork}
 use Rattle.walks.proofs.Sizes.{listing-size}
@@ -27,25 +27,25 @@ module _ (c : List ℕ) (k s : ℕ) (at : Stripe) (x0 x1 y1 : ℕ) (o : List ℕ
   abbrev q : Limits
   q = limits x0 x1 y1
 
-  abbrev W : Listed
+  abbrev W : ListWalked
   W = listing q at (treeAt c (suc k) s) (roomOf o - n)
 
-  abbrev M : Listed
+  abbrev M : ListWalked
   M = listOwn (matches q (pairAt c s)) (roomOf o - n) (pairAt c s)
 
-  abbrev L : ℕ → Listed
-  L room = cond (ltb x0 (middle at)) (listing q (leftPart at) (treeAt c k (leftAt c s)) room) (listed [] false 0)
+  abbrev L : ℕ → ListWalked
+  L room = cond (ltb x0 (middle at)) (listing q (leftPart at) (treeAt c k (leftAt c s)) room) (listWalked [] false 0)
 
-  abbrev R : ℕ → Listed
-  R room = cond (leb (middle at) x1) (listing q (rightPart at) (treeAt c k (rightAt c s)) room) (listed [] false 0)
+  abbrev R : ℕ → ListWalked
+  R room = cond (leb (middle at) x1) (listing q (rightPart at) (treeAt c k (rightAt c s)) room) (listWalked [] false 0)
 
-  abbrev A : Listed
+  abbrev A : ListWalked
   A = L (roomOf o - n - length (M .pairs))
 
-  abbrev B : Listed
+  abbrev B : ListWalked
   B = R (roomOf o - n - length (M .pairs) - length (A .pairs))
 
-  list-fork : W ≡ cond (ltb y1 (pairAt c s .y)) (listed [] false 1) (andThen M (andThen A B))
+  list-fork : W ≡ cond (ltb y1 (pairAt c s .y)) (listWalked [] false 1) (andThen M (andThen A B))
   unfolding listing
   list-fork = rw (tree-fork c k s (λ e. omega arith))
 
@@ -88,7 +88,7 @@ module _ (c : List ℕ) (k s : ℕ) (at : Stripe) (x0 x1 y1 : ℕ) (o : List ℕ
       over-left = left-over o n M o1 n1 fit fills-M put-own (omega arith)
 
       module _ (l : ℕ) (go : Bool) (lp : Stripe) (el : l ≡ leftAt c s) (eg : go ≡ ltb x0 (middle at)) (elp : lp ≡ leftPart at) (o2 : List ℕ) (n2 v2 : ℕ)
-          (X : Lists o1 n1 (v + 1) (cond go (listing q lp (treeAt c k l) (roomOf o1 - n1)) (listed [] false 0)) o2 n2 v2) where
+          (X : Lists o1 n1 (v + 1) (cond go (listing q lp (treeAt c k l) (roomOf o1 - n1)) (listWalked [] false 0)) o2 n2 v2) where
         left-here : Lists o1 n1 (v + 1) (L (roomOf o1 - n1)) o2 n2 v2
         left-here = rw (el, eg, elp) at X
 
@@ -106,7 +106,7 @@ module _ (c : List ℕ) (k s : ℕ) (at : Stripe) (x0 x1 y1 : ℕ) (o : List ℕ
             (listing-size q (leftPart at) (treeAt c k (leftAt c s)) (roomOf o - n - length (M .pairs))) in
             omega arith
           where
-            ask-size : (go : Bool) (w : Listed) (m : ℕ) → w .visits ≤ m → cond go w (listed [] false 0) .visits ≤ m
+            ask-size : (go : Bool) (w : ListWalked) (m : ℕ) → w .visits ≤ m → cond go w (listWalked [] false 0) .visits ≤ m
             ask-size true w m e = e
             ask-size false w m e = omega arith
 
@@ -130,7 +130,7 @@ module _ (c : List ℕ) (k s : ℕ) (at : Stripe) (x0 x1 y1 : ℕ) (o : List ℕ
           list-left-fits = still-fits o1 n1 A o2 n2 (lists-left .put) room (er ∙ sym room-here) b2
 
           pub list-both : (r : ℕ) (b : Bool) (rp : Stripe) → r ≡ rightAt c s → b ≡ ltb x1 (middle at) → rp ≡ rightPart at → (o3 : List ℕ) (n3 v3 : ℕ)
-              → Lists o2 n2 v2 (cond (not b) (listing q rp (treeAt c k r) (roomOf o2 - n2)) (listed [] false 0)) o3 n3 v3 → Lists o n v W o3 n3 v3
+              → Lists o2 n2 v2 (cond (not b) (listing q rp (treeAt c k r) (roomOf o2 - n2)) (listWalked [] false 0)) o3 n3 v3 → Lists o n v W o3 n3 v3
           list-both r b rp er eb erp o3 n3 v3 Y =
               let Y′ : Lists o2 n2 v2 (R (roomOf o2 - n2)) o3 n3 v3 = rw (er, eb, erp, not-lt x1 (middle at)) at Y in
               let Z : Lists o2 n2 v2 B o3 n3 v3 = rw over-right at Y′ in
@@ -139,16 +139,16 @@ module _ (c : List ℕ) (k s : ℕ) (at : Stripe) (x0 x1 y1 : ℕ) (o : List ℕ
 
 -- a son's place
 module _ (c : List ℕ) (k s : ℕ) (at : Stripe) (q : Limits) (o : List ℕ) (n v room : ℕ) (go : Bool) where
-  nowhere : Lists o n v (listed [] false 0) o n v
+  nowhere : Lists o n v (listWalked [] false 0) o n v
   nowhere = let e : v + 0 ≡ v = omega arith in rw e at (lists-nothing o n v 0)
 
-  pub list-none : s ≡ 0 → Lists o n v (cond go (listing q at (treeAt c k s) room) (listed [] false 0)) o n v
+  pub list-none : s ≡ 0 → Lists o n v (cond go (listing q at (treeAt c k s) room) (listWalked [] false 0)) o n v
   unfolding listing
   list-none e = rw (tree-none c k s e) (on go (λ t. rw t nowhere) (λ f. rw f nowhere))
 
-  pub list-unasked : go ≡ false → Lists o n v (cond go (listing q at (treeAt c k s) room) (listed [] false 0)) o n v
+  pub list-unasked : go ≡ false → Lists o n v (cond go (listing q at (treeAt c k s) room) (listWalked [] false 0)) o n v
   list-unasked e = rw e nowhere
 
   pub list-asked : (o′ : List ℕ) (n′ v′ : ℕ) → go ≡ true → (k ≡ 0 → ⊥) → Lists o n v (listing q at (treeAt c (suc (k - 1)) s) room) o′ n′ v′
-      → Lists o n v (cond go (listing q at (treeAt c k s) room) (listed [] false 0)) o′ n′ v′
+      → Lists o n v (cond go (listing q at (treeAt c k s) room) (listWalked [] false 0)) o′ n′ v′
   list-asked o′ n′ v′ e d X = rw e (rw (back k d) at X)

@@ -10,7 +10,7 @@ ghost use Rattle.plain.specs.Plain.{limits};
 ghost use Rattle.stripes.specs.Shape.{stripeOf};
 ghost use Rattle.pools.specs.Sound.{Sound};
 ghost use Rattle.stripes.specs.Stripe.{allLevels, rootStripe};
-ghost use Rattle.walks.specs.Walks.{listed, listing, roomOf};
+ghost use Rattle.walks.specs.Walks.{listWalked, listing, roomOf};
 ghost use Rattle.questions.specs.Walking.{Walkable};
 ghost use Rattle.listing.specs.Listing.{Lists, Lent};
 
@@ -95,7 +95,7 @@ fn list_son(
     visits: &mut u32,
 ) -> usize
     requires { ⌜ Walkable (now pool) levels slot (stripeOf at) (now visits) × (count ≤ roomOf (now out)) ⌝ }
-    ensures { λ r. ⌜ Lists (now (out .entry)) count (now (visits .entry)) (cond go (listing (limits x0 x1 y1) (stripeOf at) (treeAt (now (pool .entry)) levels slot) (roomOf (now (out .entry)) - count)) (listed [] false 0)) (now (out .exit)) r (now (visits .exit)) ⌝ }
+    ensures { λ r. ⌜ Lists (now (out .entry)) count (now (visits .entry)) (cond go (listing (limits x0 x1 y1) (stripeOf at) (treeAt (now (pool .entry)) levels slot) (roomOf (now (out .entry)) - count)) (listWalked [] false 0)) (now (out .exit)) r (now (visits .exit)) ⌝ }
 {
     if slot == 0 {
         return count;

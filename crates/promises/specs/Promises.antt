@@ -9,7 +9,7 @@ use Rattle.kinds.specs.Promise.{Promise}
 use Rattle.stripes.specs.Stripe.{rootStripe}
 use Rattle.plain.specs.Books.{Plainly, plainInsert, plainDelete, plainSmallestX, plainLargestX, plainSmallestY, plainListing, promise}
 use Rattle.plain.specs.Strips.{stripPair, coversLimits, lastLimits, meetsLimits, containsLimits, plainOpen, plainClose, plainFirst, plainLast, plainEarliest, plainCovers, plainMeets, plainContains}
-use Rattle.walks.specs.Walks.{smallestX, largestX, smallestY, Listed, listing, roomOf, written}
+use Rattle.walks.specs.Walks.{smallestX, largestX, smallestY, ListWalked, listing, roomOf, written}
 use Rattle.pages.specs.Book.{versionOne, bookBytes, plainSave}
 use Rattle.pools.specs.Cells.{bookOf, treeOf, stored}
 use Rattle.pools.specs.Laid.{inserted, deleted}
@@ -52,7 +52,7 @@ earliestStart c u v = promise (plainEarliest u v (bookOf c)) (smallestY (u * 655
 
 -- a listing leaves the pool, and writes the pairs of its walk into the lent slice, from its start
 abbrev pub walkListed : Plainly → List ℕ → Limits → List ℕ → Promise
-walkListed k c q out = let w : Listed = listing q rootStripe (treeOf c) (roomOf out) in promise k (w .visits) c (written (w .pairs) out)
+walkListed k c q out = let w : ListWalked = listing q rootStripe (treeOf c) (roomOf out) in promise k (w .visits) c (written (w .pairs) out)
 
 unfoldable pub listingAsked : List ℕ → Limits → (out : List ℕ) → Promise
 listingAsked c q out = walkListed (plainListing q (roomOf out) (bookOf c)) c q out

@@ -12,27 +12,27 @@ use Rattle.kinds.specs.declared.Limits.{Limits}
 use Rattle.plain.specs.Plain.{matches}
 use Rattle.stripes.specs.Stripe.{Stripe, rootStripe, middle, leftPart, rightPart}
 use Rattle.trees.specs.Tree.{Tree, fork, Well, itself}
-use Rattle.walks.specs.Walks.{Listed, listed, andThen, listOwn, listing}
+use Rattle.walks.specs.Walks.{ListWalked, listWalked, andThen, listOwn, listing}
 use Rattle.kinds.proofs.Tests.{on, clash}
 use Rattle.walks.proofs.Outside.{is-match}
 use Rattle.walks.proofs.Ranges.{LiesOver, empty, inside, both, left-only, right-only, lies-over-root, mostVisits, whole-le, most-both, most-one}
 
 -- so many visits at most are not paid for by the pairs listed
-record Paid (f : ℕ) (a : Listed) : Type 0 where
+record Paid (f : ℕ) (a : ListWalked) : Type 0 where
   paid : a .visits ≤ f + 2 * length (a .pairs)
 
-paid-more : {a : Listed} {f g : ℕ} → f ≤ g → Paid f a → Paid g a
+paid-more : {a : ListWalked} {f g : ℕ} → f ≤ g → Paid f a → Paid g a
 paid-more h c = record { paid = omega arith }
 
-paid-then : (a b : Listed) {f g : ℕ} → Paid f a → Paid g b → Paid (f + g) (andThen a b)
+paid-then : (a b : ListWalked) {f g : ℕ} → Paid f a → Paid g b → Paid (f + g) (andThen a b)
 paid-then a b ca cb = on (a .more) (λ e. rw e (record { paid = omega arith })) (λ e. rw e (record { paid = simp length-append (omega arith) }))
 
 -- a son that is asked or not
-paid-ask : (c : Bool) (a : Listed) {f : ℕ} → (c ≡ true → Paid f a) → Paid f (cond c a (listed [] false 0))
+paid-ask : (c : Bool) (a : ListWalked) {f : ℕ} → (c ≡ true → Paid f a) → Paid f (cond c a (listWalked [] false 0))
 paid-ask true a h = h refl
 paid-ask false a h = record { paid = omega arith }
 
-paid-none : {c : Bool} (L : ℕ → Listed) → c ≡ false → c ≡ true → (room : ℕ) → Paid 0 (L room)
+paid-none : {c : Bool} (L : ℕ → ListWalked) → c ≡ false → c ≡ true → (room : ℕ) → Paid 0 (L room)
 paid-none L e t room = absurd (clash t e)
 
 paid-own : (c : Bool) (room : ℕ) (p : Pair) → Paid 1 (listOwn c room p)
@@ -41,7 +41,7 @@ paid-own true zero p = record { paid = omega arith }
 paid-own true (suc room) p = record { paid = omega arith }
 
 -- a match pays for two visits of its sons
-paid-match : (room : ℕ) (p : Pair) (b : Listed) → Paid 2 b → Paid 1 (andThen (listOwn true room p) b)
+paid-match : (room : ℕ) (p : Pair) (b : ListWalked) → Paid 2 b → Paid 1 (andThen (listOwn true room p) b)
 paid-match zero p b c = record { paid = omega arith }
 paid-match (suc room) p b c = record { paid = omega arith }
 

@@ -13,7 +13,7 @@ use Rattle.kinds.specs.declared.Limits.{Limits}
 use Rattle.plain.specs.Plain.{matches, those}
 use Rattle.stripes.specs.Stripe.{Stripe, middle, leftPart, rightPart}
 use Rattle.trees.specs.Tree.{Tree, none, fork, members, All, Well, itself}
-use Rattle.walks.specs.Walks.{Listed, listed, andThen, listOwn, listing}
+use Rattle.walks.specs.Walks.{ListWalked, listWalked, andThen, listOwn, listing}
 use Rattle.kinds.proofs.Tests.{on}
 use Rattle.plain.proofs.Those.{those-append}
 use Rattle.walks.proofs.Outside.{left-none, right-none, all-none}
@@ -27,14 +27,14 @@ module _ (ok : Pair → Bool) where
   those-fork p u v = on (ok p) (λ e. rw (e, those-append ok u v)) (λ e. rw (e, those-append ok u v))
 
 -- a has listed the first `room` of ps, and says whether there are more
-pub record Takes (room : ℕ) (ps : List Pair) (a : Listed) : Type 0 where
+pub record Takes (room : ℕ) (ps : List Pair) (a : ListWalked) : Type 0 where
   pub pairs : a .pairs ≡ take room ps
   pub more : a .more ≡ ltb room (length ps)
 
-takes-nothing : (room v : ℕ) → Takes room [] (listed [] false v)
+takes-nothing : (room v : ℕ) → Takes room [] (listWalked [] false v)
 takes-nothing room v = record { pairs = sym (take-nil room); more = sym (le-ltb room 0 (omega arith)) }
 
-takes-then : (room : ℕ) (ps qs : List Pair) (a b : Listed) → Takes room ps a → Takes (room - length (a .pairs)) qs b → Takes room (ps ++ qs) (andThen a b)
+takes-then : (room : ℕ) (ps qs : List Pair) (a b : ListWalked) → Takes room ps a → Takes (room - length (a .pairs)) qs b → Takes room (ps ++ qs) (andThen a b)
 takes-then room ps qs a b ha hb = on (a .more)
     (λ e. rw e (
     let h : room < length ps = ltb-true _ _ (sym (ha .more) ∙ e) in
@@ -60,7 +60,7 @@ takes-own true zero p = record { pairs = refl; more = refl }
 takes-own true (suc room) p = record { pairs = rw (take-nil room); more = sym (le-ltb (suc room) 1 (omega arith)) }
 
 -- a son that is asked or holds nothing
-takes-ask : (c : Bool) (a : Listed) (ps : List Pair) (room : ℕ) → Takes room ps a → (c ≡ false → ps ≡ []) → Takes room ps (cond c a (listed [] false 0))
+takes-ask : (c : Bool) (a : ListWalked) (ps : List Pair) (room : ℕ) → Takes room ps a → (c ≡ false → ps ≡ []) → Takes room ps (cond c a (listWalked [] false 0))
 takes-ask true a ps room h k = h
 takes-ask false a ps room h k = rw (k refl) (takes-nothing room 0)
 

@@ -11,27 +11,27 @@ use Rattle.kinds.specs.declared.Walked.{Walked}
 use Rattle.plain.specs.Plain.{inRange, matches}
 use Rattle.stripes.specs.Stripe.{Stripe, middle, leftPart, rightPart}
 use Rattle.trees.specs.Tree.{Tree, none, fork, size}
-use Rattle.walks.specs.Walks.{ask, smallestY, Listed, listed, andThen, listOwn, listing}
+use Rattle.walks.specs.Walks.{ask, smallestY, ListWalked, listWalked, andThen, listOwn, listing}
 use Rattle.kinds.proofs.Tests.{on}
 
 -- a walk, and a listing, with so many visits at most
 pub record Upto (k : ℕ) (w : Walked) : Type 0 where
   pub visits : w .visits ≤ k
 
-record List-upto (k : ℕ) (a : Listed) : Type 0 where
+record List-upto (k : ℕ) (a : ListWalked) : Type 0 where
   visits : a .visits ≤ k
 
 pub upto-ask : (c : Bool) (w : Walked) {k : ℕ} → (c ≡ true → Upto k w) → Upto k (ask c w)
 upto-ask true w h = h refl
 upto-ask false w h = record { visits = omega arith }
 
-upto-then : (a b : Listed) {j k : ℕ} → List-upto j a → List-upto k b → List-upto (j + k) (andThen a b)
+upto-then : (a b : ListWalked) {j k : ℕ} → List-upto j a → List-upto k b → List-upto (j + k) (andThen a b)
 upto-then a b h e = on (a .more) (λ t. rw t (record { visits = omega arith })) (λ t. rw t (record { visits = omega arith }))
 
-upto-more : {a : Listed} {j k : ℕ} → j ≤ k → List-upto j a → List-upto k a
+upto-more : {a : ListWalked} {j k : ℕ} → j ≤ k → List-upto j a → List-upto k a
 upto-more h e = record { visits = omega arith }
 
-upto-asked : (c : Bool) (a : Listed) {k : ℕ} → List-upto k a → List-upto k (cond c a (listed [] false 0))
+upto-asked : (c : Bool) (a : ListWalked) {k : ℕ} → List-upto k a → List-upto k (cond c a (listWalked [] false 0))
 upto-asked true a h = h
 upto-asked false a h = record { visits = omega arith }
 

@@ -55,34 +55,34 @@ smallestY x0 x1 s (fork i p l r) =
     cond (inRange x0 x1 p) (seen (Found p) 1) (seen (closest (λ p q. ltb (p .y) (q .y)) (a .finding) (b .finding)) (a .visits + b .visits + 1))
 
 -- what a listing has listed, whether a match found no room, and its visits
-pub record Listed : Type 0 where
+pub record ListWalked : Type 0 where
   pub pairs : List Pair
   pub more : Bool
   pub visits : ℕ
 
 -- a listing of these pairs, after so many visits
-abbrev pub listed : List Pair → Bool → ℕ → Listed
-listed ps more v = record { pairs = ps; more = more; visits = v }
+abbrev pub listWalked : List Pair → Bool → ℕ → ListWalked
+listWalked ps more v = record { pairs = ps; more = more; visits = v }
 
 -- one after the other, unless the first stopped the walk
-abbrev pub andThen : Listed → Listed → Listed
-andThen a b = cond (a .more) a (listed (a .pairs ++ b .pairs) (b .more) (a .visits + b .visits))
+abbrev pub andThen : ListWalked → ListWalked → ListWalked
+andThen a b = cond (a .more) a (listWalked (a .pairs ++ b .pairs) (b .more) (a .visits + b .visits))
 
 -- a slot's own pair, if it matches and there is room; one visit
-abbrev pub listOwn : Bool → ℕ → Pair → Listed
-listOwn false room p = listed [] false 1
-listOwn true zero p = listed [] true 1
-listOwn true (suc room) p = listed (p ∷ []) false 1
+abbrev pub listOwn : Bool → ℕ → Pair → ListWalked
+listOwn false room p = listWalked [] false 1
+listOwn true zero p = listWalked [] true 1
+listOwn true (suc room) p = listWalked (p ∷ []) false 1
 
 -- listing into so much room: nothing if y > y1; else own pair, then left if x0 < m, then right if m ≤ x1; the walk stops at the first match beyond the room
-unfoldable pub listing : Limits → Stripe → Tree Pair → ℕ → Listed
-listing q s none room = listed [] false 0
+unfoldable pub listing : Limits → Stripe → Tree Pair → ℕ → ListWalked
+listing q s none room = listWalked [] false 0
 listing q s (fork i p l r) room =
     let me = listOwn (matches q p) room p in
     let k = room - length (me .pairs) in
-    let a = cond (ltb (q .x0) (middle s)) (listing q (leftPart s) l k) (listed [] false 0) in
-    let b = cond (leb (middle s) (q .x1)) (listing q (rightPart s) r (k - length (a .pairs))) (listed [] false 0) in
-    cond (ltb (q .y1) (p .y)) (listed [] false 1) (andThen me (andThen a b))
+    let a = cond (ltb (q .x0) (middle s)) (listing q (leftPart s) l k) (listWalked [] false 0) in
+    let b = cond (leb (middle s) (q .x1)) (listing q (rightPart s) r (k - length (a .pairs))) (listWalked [] false 0) in
+    cond (ltb (q .y1) (p .y)) (listWalked [] false 1) (andThen me (andThen a b))
 
 -- how many pairs a lent slice has room for
 abbrev pub roomOf : List ℕ → ℕ
