@@ -1,6 +1,7 @@
 // Many pseudo-random calls, held to a plain list that is scanned from top to bottom: every answer, and the cells and bytes that it leaves.
+#![tactic(auto)]
 mod desk;
-mod plain;
+mod plainly;
 mod step;
 
 use desk::*;

@@ -2,7 +2,7 @@
 ghost use Rattle.std.specs.Prelude.{◌≤◌, length};
 
 use crate::desk::*;
-use crate::plain::*;
+use crate::plainly::*;
 use kinds::{Answer, Five};
 
 // What the cells for a listing hold before it; the bytes for a book hold 238.

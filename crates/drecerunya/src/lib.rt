@@ -1,17 +1,18 @@
 // The C interface: a thin function for each call. include/drecerunya.h declares them side by side.
-mod ask;
-mod change;
+#![tactic(auto)]
+mod asking;
+mod changing;
 mod list;
 
 ghost use Rattle.sound.specs.Promises.{behind_check, set_up, check};
 ghost use Rattle.promises.specs.Promises.{saved};
 ghost use Rattle.told.specs.Told.{Tells, TellsCode};
 
-pub use ask::{
+pub use asking::{
     drecerunya_earliest_start, drecerunya_first_to_end, drecerunya_largest_x,
     drecerunya_last_to_end, drecerunya_smallest_x, drecerunya_smallest_y,
 };
-pub use change::{drecerunya_close, drecerunya_delete, drecerunya_insert, drecerunya_open};
+pub use changing::{drecerunya_close, drecerunya_delete, drecerunya_insert, drecerunya_open};
 pub use list::{
     drecerunya_list_contains, drecerunya_list_covers, drecerunya_list_meets, drecerunya_listing,
 };

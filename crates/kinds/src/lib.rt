@@ -1,4 +1,6 @@
 // The types that every crate shares. What they mean is in specs/.
+#![tactic(auto)]
+
 ghost use Rattle.std.specs.Prelude.{◌≡◌};
 ghost use Rattle.kinds.specs.Answer.{five, finished, refused, ended};
 ghost use Rattle.kinds.specs.Making.{answered, listed_by};
@@ -8,7 +10,7 @@ ghost use Rattle.kinds.specs.Shape.{Keyed};
 pub mod codes;
 
 // A stored pair. No two stored pairs have the same x.
-#[derive(Drop)]
+#[derive(Clone, Copy)]
 pub struct Pair {
     pub x: u32,
     pub y: u32,
@@ -23,6 +25,7 @@ fn key(x: u32, y: u32) -> u64
 
 impl Pair {
     // A pair beats another if its y is smaller, or y is equal and its x is smaller.
+    #[tactic(auto, using(crate::proofs::Order::beats_by_key))]
     pub fn beats(self, other: Pair) -> bool
         ensures { result ≡ beats self other }
     {
@@ -31,7 +34,7 @@ impl Pair {
 }
 
 // The limits of a question, inclusive.
-#[derive(Drop)]
+#[derive(Clone, Copy)]
 pub struct Limits {
     pub x0: u32,
     pub x1: u32,
@@ -39,21 +42,21 @@ pub struct Limits {
 }
 
 // What a search ends with.
-#[derive(Drop)]
+#[derive(Clone, Copy)]
 pub enum Finding {
     Found(Pair),
     Nothing,
 }
 
 // What a walk ends with, and the tree slots that it visited.
-#[derive(Drop)]
+#[derive(Clone, Copy)]
 pub struct Walked {
     pub finding: Finding,
     pub visits: u32,
 }
 
 // What a call ends with. A change that is done has listed nothing; `more` says that a match found no room.
-#[derive(Drop)]
+#[derive(Clone, Copy)]
 pub enum Outcome {
     Found(Pair),
     Nothing,
@@ -62,7 +65,7 @@ pub enum Outcome {
 }
 
 // The answer of a call: only a found pair carries a pair. The five numbers of each case are in specs/Answer.antt.
-#[derive(Drop)]
+#[derive(Clone, Copy)]
 pub struct Answer {
     pub outcome: Outcome,
     pub visits: u32,
@@ -93,6 +96,7 @@ impl Answer {
     }
 
     // A change that ends with a code.
+    #[tactic(auto, unfolding(crate::specs::Answer::ended))]
     pub fn ended(code: u32) -> Answer
         ensures { result ≡ ended code }
     {
@@ -131,6 +135,7 @@ impl Answer {
     }
 
     // The five numbers of the answer.
+    #[tactic(auto, unfolding(crate::specs::Answer::five, crate::specs::Answer::numbers_of))]
     pub fn numbers(self) -> Five
         ensures { result ≡ five self }
     {
@@ -169,7 +174,7 @@ impl Answer {
 }
 
 // An answer as five numbers.
-#[derive(Drop)]
+#[derive(Clone, Copy)]
 pub struct Five {
     pub code: u32,
     pub x: u32,

@@ -1,4 +1,5 @@
 // Reading a line of the script: a letter, and decimal numbers after single spaces.
+#![tactic(auto)]
 ghost use Rattle.std.specs.Prelude.{◌≤◌, ◌≡◌, [], ◌∷◌, length};
 ghost use Rattle.line.specs.Line.{asked_by, words};
 ghost use Rattle.line.specs.Reading.{word_length, numbers_after, of_letter};

@@ -1,4 +1,5 @@
 // The bytes of a stored book, written into lent bytes: its head, and a pair's row.
+#![tactic(auto)]
 ghost use Rattle.std.specs.Prelude.{◌≡◌, ◌+◌, ◌*◌, ◌≤◌, ◌<◌, length};
 ghost use Rattle.kinds.specs.Placed.{placed};
 ghost use Rattle.pages.specs.Book.{word, version_one};

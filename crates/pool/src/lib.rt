@@ -1,15 +1,16 @@
 // The calls over a pool. Each accepts any lent cells and any numbers: the check, and then the call on the checked pool.
+#![tactic(auto)]
 ghost use Rattle.kinds.specs.Promise.{Changes, Answers};
 ghost use Rattle.sound.specs.Promises.{set_up, check};
 
 use kinds::Answer;
 
-mod ask;
-mod change;
+mod asking;
+mod changing;
 mod list;
 
-pub use ask::{largest_x, smallest_x, smallest_y};
-pub use change::{delete, delete_code, insert, insert_code};
+pub use asking::{largest_x, smallest_x, smallest_y};
+pub use changing::{delete, delete_code, insert, insert_code};
 pub use list::listing;
 
 // Lays out a pool with nothing stored, whatever its cells held.

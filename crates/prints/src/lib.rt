@@ -1,4 +1,5 @@
 // What a line of the script prints, a kind of line at a time. Nothing here reads a line or a pool.
+#![tactic(auto)]
 ghost use Rattle.std.specs.Prelude.{◌+◌, ◌*◌, ◌/◌, ◌≤◌, ◌≡◌, [], ◌∷◌, ltb, length};
 ghost use Rattle.text.specs.Text.{row};
 ghost use Rattle.text.specs.Writing.{Puts};

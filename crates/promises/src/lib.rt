@@ -1,1 +1,2 @@
 // No code: what each call promises on a pool that has been checked (specs/ and proofs/).
+#![tactic(auto)]

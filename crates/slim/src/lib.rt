@@ -1,9 +1,11 @@
 // A slim stripe: in 32 bits, by its lower end and half of its width.
+#![tactic(auto)]
+
 ghost use Rattle.std.specs.Prelude.{◌≡◌, ltb};
 ghost use Rattle.stripes.specs.Stripe.{middle};
 ghost use Rattle.slim.specs.Slim.{MiddleFits, stripe_by, root_slim, left_slim, right_slim};
 
-#[derive(Drop)]
+#[derive(Clone, Copy)]
 pub struct Slim {
     pub lower: u32,
     pub half: u32,

@@ -1,4 +1,5 @@
 // A strip's numbers: what refuses them, the pair that they make, and the limits within which the strips stand that a question asks for.
+#![tactic(auto)]
 ghost use Rattle.std.specs.Prelude.{◌≡◌, ◌*◌, ◌≤◌};
 ghost use Rattle.kinds.specs.Promise.{first_code};
 ghost use Rattle.plain.specs.Plain.{limits};

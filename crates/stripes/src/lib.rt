@@ -1,11 +1,13 @@
 // The stripe of x that a slot owns, and its halves. What they mean is in specs/.
+#![tactic(auto)]
+
 ghost use Rattle.std.specs.Prelude.{◌≡◌, ◌≤◌, ltb};
 ghost use Rattle.stripes.specs.Stripe.{low_levels, root_stripe, middle, left_part, right_part, holds};
 ghost use Rattle.stripes.specs.Heights.{Low, part_of, stripe_at};
 ghost use Rattle.stripes.specs.Shape.{stripe_of};
 
 // The part of the x that a slot owns: from its lower end up to its upper end, which is excluded.
-#[derive(Drop)]
+#[derive(Clone, Copy)]
 pub struct Stripe {
     pub lower: u64,
     pub upper: u64,

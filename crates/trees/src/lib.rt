@@ -1,1 +1,2 @@
 // No code: the tree, how it changes, and the laws about it (specs/ and proofs/).
+#![tactic(auto)]

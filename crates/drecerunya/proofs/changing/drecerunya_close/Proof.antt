@@ -1,0 +1,11 @@
+-- The cells and the answer are the promised ones, and the answer is told. Nothing is assumed.
+use Rattle.told.proofs.Telling.{tells}
+use borrow.Author.Rules.{rules}
+use Rattle.drecerunya.proofs.changing.drecerunya_close.Statement.{statement}
+use Rattle.drecerunya.proofs.changing.drecerunya_close.Tie as tie
+
+returns : tie.Need-returns
+returns c = tells c.before.before.before.before.close-code.ensures c.tell-code.ensures
+
+pub drecerunya-close-spec : {M : Type 1} → statement M
+drecerunya-close-spec = tie.close (tie.spec (λ c κs. search rules) (λ c κs. search rules) (λ c. search rules) returns)
