@@ -91,8 +91,8 @@ leads_top (slot o L R) = refl
 pub leads_slot : {c : List ℕ} {s u : ℕ} (t : Tree Pair) → Leads c s t → Stands u t → Slot c u
 leads_slot none h m = elim m [ ]
 leads_slot {c} (fork i p l r) h (at_top e) = subst (Slot c) (sym e) (leads_reads h).slot
-leads_slot (fork i p l r) h (at_left m) = leads_slot l (leads_reads h).left m
-leads_slot (fork i p l r) h (at_right m) = leads_slot r (leads_reads h).right m
+leads_slot {c = c} (fork i p l r) h (at_left m) = leads_slot {s = left_at c i} l (leads_reads h).left m
+leads_slot {c = c} (fork i p l r) h (at_right m) = leads_slot {s = right_at c i} r (leads_reads h).right m
 
 -- the frame
 module _ {c d : List ℕ} (e : length d ≡ length c) where
@@ -123,8 +123,8 @@ leads_agree {c} {d} (fork i p l r) h k (at_top e) =
       left = leads_top b.left ∙ sym (leads_top a.left);
       right = leads_top b.right ∙ sym (leads_top a.right);
     })
-leads_agree (fork i p l r) h k (at_left m) = leads_agree l (leads_reads h).left (leads_reads k).left m
-leads_agree (fork i p l r) h k (at_right m) = leads_agree r (leads_reads h).right (leads_reads k).right m
+leads_agree {c = c} {d = d} (fork i p l r) h k (at_left m) = leads_agree {s = left_at c i} {v = left_at d i} l (leads_reads h).left (leads_reads k).left m
+leads_agree {c = c} {d = d} (fork i p l r) h k (at_right m) = leads_agree {s = right_at c i} {v = right_at d i} r (leads_reads h).right (leads_reads k).right m
 
 -- law: pools that agree on the header and on every slot outside a tree, and in which links lead to that tree, are equal
 pub agree_outside : {c d : List ℕ} {s v : ℕ} (t : Tree Pair) → Pool c → length d ≡ length c → Leads c s t → Leads d v t

@@ -11,7 +11,7 @@ use Rattle.stripes.specs.Stripe.{Stripe, root_stripe, left_part, right_part}
 use Rattle.trees.specs.Tree.{Tree, none, fork, size, Mem, here, in_left, in_right, Well, itself}
 use Rattle.trees.specs.Standing.{slots, Stands, at_top, at_left, at_right, Distinct}
 use Rattle.plain.specs.Plain.{Apart}
-use Rattle.pools.specs.Cells.{slots_of, pair_at, left_at}
+use Rattle.pools.specs.Cells.{slots_of, pair_at, left_at, right_at}
 use Rattle.pools.specs.Sound.{Pool, Slot, Leads, nowhere, slot, Free, Chain, ends, next, Sound}
 use Rattle.trees.proofs.Trees.{all_at, well_in}
 use Rattle.pools.proofs.Decided.{sound_well}
@@ -50,8 +50,8 @@ module _ {A : Type 0} where
 pub stands_mem : {c : List ℕ} {s u : ℕ} (t : Tree Pair) → Leads c s t → Stands u t → Mem (pair_at c u) t
 stands_mem none h m = elim m [ ]
 stands_mem {c} (fork i p l r) h (at_top e) = here (ap (λ v. pair_at c v) e ∙ (leads_reads h).pair)
-stands_mem (fork i p l r) h (at_left m) = in_left (stands_mem l (leads_reads h).left m)
-stands_mem (fork i p l r) h (at_right m) = in_right (stands_mem r (leads_reads h).right m)
+stands_mem {c = c} (fork i p l r) h (at_left m) = in_left (stands_mem {s = left_at c i} l (leads_reads h).left m)
+stands_mem {c = c} (fork i p l r) h (at_right m) = in_right (stands_mem {s = right_at c i} r (leads_reads h).right m)
 
 -- law: no slot stands twice, for it would hold one x twice
 pub leads_distinct : {c : List ℕ} {s : ℕ} (at : Stripe) (t : Tree Pair) → Leads c s t → Well itself at t → Distinct t
@@ -65,8 +65,8 @@ leads_distinct {c} at (fork i p l r) h w =
       not_left = λ m. (all_at _ w.over_left (stands_mem l k.left m)).apart (sym e);
       not_right = λ m. (all_at _ w.over_right (stands_mem r k.right m)).apart (sym e);
       across = λ u m n. let a = all_at _ il (stands_mem l k.left m) in let b = all_at _ ir (stands_mem r k.right n) in omega arith;
-      left = leads_distinct (left_part at) l k.left w.left;
-      right = leads_distinct (right_part at) r k.right w.right;
+      left = leads_distinct {s = left_at c i} (left_part at) l k.left w.left;
+      right = leads_distinct {s = right_at c i} (right_part at) r k.right w.right;
     }
 
 -- a link of the tree is 0 to n, and so none to a slot in the free form
@@ -77,8 +77,8 @@ leads_low (slot o L R) = o.most
 stands_low : {c : List ℕ} {s u : ℕ} (t : Tree Pair) → Leads c s t → Stands u t → left_at c u ≤ slots_of c
 stands_low none h m = elim m [ ]
 stands_low {c} (fork i p l r) h (at_top e) = subst (λ v. left_at c v ≤ slots_of c) (sym e) (leads_low (leads_reads h).left)
-stands_low (fork i p l r) h (at_left m) = stands_low l (leads_reads h).left m
-stands_low (fork i p l r) h (at_right m) = stands_low r (leads_reads h).right m
+stands_low {c = c} (fork i p l r) h (at_left m) = stands_low {s = left_at c i} l (leads_reads h).left m
+stands_low {c = c} (fork i p l r) h (at_right m) = stands_low {s = right_at c i} r (leads_reads h).right m
 
 -- law: a slot of the tree is not in the free form
 pub stands_used : {c : List ℕ} {s u : ℕ} (t : Tree Pair) → Pool c → Leads c s t → Stands u t → Free c u → ⊥

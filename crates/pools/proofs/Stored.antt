@@ -12,7 +12,7 @@ use Rattle.kinds.specs.declared.Pair.{Pair}
 use Rattle.plain.specs.Plain.{those, Differs, Apart}
 use Rattle.trees.specs.Tree.{Tree, none, fork, members, size, Mem, here, in_left, in_right, xs, itself}
 use Rattle.trees.specs.Standing.{slots, Stands, at_top, at_left, at_right}
-use Rattle.pools.specs.Cells.{slots_of, count_of, pair_at, is_free, stored_from, stored}
+use Rattle.pools.specs.Cells.{slots_of, count_of, pair_at, is_free, stored_from, stored, left_at, right_at}
 use Rattle.pools.specs.Sound.{Slot, Leads, nowhere, slot, Sound}
 use Rattle.kinds.proofs.Tests.{on, clash}
 use Rattle.trees.proofs.Members.{members_mem}
@@ -60,8 +60,8 @@ record Stood (c : List ℕ) (t : Tree Pair) (q : Pair) : Type 0 where
 mem_stood : {c : List ℕ} {s : ℕ} {q : Pair} (t : Tree Pair) → Leads c s t → Mem q t → Stood c t q
 mem_stood none h m = elim m [ ]
 mem_stood (fork i p l r) h (here e) = record { at = i; stands = at_top refl; pair = e ∙ sym (leads_reads h).pair }
-mem_stood (fork i p l r) h (in_left m) = let k = mem_stood l (leads_reads h).left m in record { at = k.at; stands = at_left k.stands; pair = k.pair }
-mem_stood (fork i p l r) h (in_right m) = let k = mem_stood r (leads_reads h).right m in record { at = k.at; stands = at_right k.stands; pair = k.pair }
+mem_stood {c = c} (fork i p l r) h (in_left m) = let k = mem_stood {s = left_at c i} l (leads_reads h).left m in record { at = k.at; stands = at_left k.stands; pair = k.pair }
+mem_stood {c = c} (fork i p l r) h (in_right m) = let k = mem_stood {s = right_at c i} r (leads_reads h).right m in record { at = k.at; stands = at_right k.stands; pair = k.pair }
 
 -- the x in the tree's slots are the tree's
 slots_xs : {c : List ℕ} {s : ℕ} {t : Tree Pair} → Leads c s t → map (λ u. (pair_at c u).x) (slots t) ≡ xs itself t

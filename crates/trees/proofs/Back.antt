@@ -3,7 +3,7 @@
 use Prim.Native.Nat.{ℕ}
 use mathlib.Core.Path.{◌≡◌}
 use Rattle.kinds.specs.declared.Pair.{Pair}
-use Rattle.stripes.specs.Stripe.{Stripe, In}
+use Rattle.stripes.specs.Stripe.{Stripe, In, left_part, right_part}
 use Rattle.trees.specs.Tree.{Tree, fork, All, Mem, Tops, Under, Well}
 use Rattle.trees.specs.Standing.{New}
 use Rattle.trees.specs.Changes.{go_down, take_out}
@@ -51,11 +51,11 @@ module _ {A : Type 0} (key : A → Pair) where
     down_taken (go_right (keep b) j d) w e = out_right e.0 j (down_taken d w.right e.2)
 
   filled_down : {s : Stripe} {i k : ℕ} {p : A} {l r t : Tree A} → Filled key (fork i p l r) t k → Well key s (fork i p l r) → Down key k p s t (fork i p l r)
-  filled_down last w = put
-  filled_down (from_left o u) w = go_left (swap w.over_left.0.beaten) w.left.inside.to (filled_down u w.left)
-  filled_down (from_right o u) w = go_right (swap w.over_right.0.beaten) w.right.inside.from (filled_down u w.right)
+  filled_down {s = s} last w = put
+  filled_down {s = s} (from_left o u) w = go_left (swap w.over_left.0.beaten) w.left.inside.to (filled_down {s = left_part s} u w.left)
+  filled_down {s = s} (from_right o u) w = go_right (swap w.over_right.0.beaten) w.right.inside.from (filled_down {s = right_part s} u w.right)
 
-  pub taken_down : {s : Stripe} {k : ℕ} {p : A} {t t' : Tree A} → Taken key p s t t' k → Well key s t → Down key k p s t' t
+  pub taken_down : {p : A} {s : Stripe} {k : ℕ} {t t' : Tree A} → Taken key p s t t' k → Well key s t → Down key k p s t' t
   taken_down (hit u) w = filled_down u w
   taken_down (out_left e b d) w = go_left (keep (all_taken key _ d w.over_left).0.beaten) b (taken_down d w.left)
   taken_down (out_right e b d) w = go_right (keep (all_taken key _ d w.over_right).0.beaten) b (taken_down d w.right)

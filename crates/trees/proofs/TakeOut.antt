@@ -44,12 +44,12 @@ module _ {A : Type 0} (key : A → Pair) where
     filled_all (from_left o u) h = let k = filled_all u h.1 in ((h.0, k.0, k.1), h.2)
     filled_all (from_right o u) h = let k = filled_all u h.2 in (h.1, (h.0, k.0, k.1))
 
-    pub all_taken : {s : Stripe} {k : ℕ} {p : A} {t t' : Tree A} → Taken p s t t' k → All P t → P p × All P t'
+    pub all_taken : {p : A} {s : Stripe} {k : ℕ} {t t' : Tree A} → Taken p s t t' k → All P t → P p × All P t'
     all_taken (hit u) h = (h.0, all_filled u h.1 h.2)
     all_taken (out_left e b d) h = let k = all_taken d h.1 in (k.0, (h.0, k.1, h.2))
     all_taken (out_right e b d) h = let k = all_taken d h.2 in (k.0, (h.0, h.1, k.1))
 
-    pub taken_all : {s : Stripe} {k : ℕ} {p : A} {t t' : Tree A} → Taken p s t t' k → P p → All P t' → All P t
+    pub taken_all : {p : A} {s : Stripe} {k : ℕ} {t t' : Tree A} → Taken p s t t' k → P p → All P t' → All P t
     taken_all (hit u) h k = let a = filled_all u k in (h, a.0, a.1)
     taken_all (out_left e b d) h k = (k.0, taken_all d h k.1, k.2)
     taken_all (out_right e b d) h k = (k.0, k.1, taken_all d h k.2)
@@ -91,7 +91,7 @@ module _ {A : Type 0} (key : A → Pair) where
         right = filled_well (right_part s) u g;
       }
 
-  pub taken_well : {s : Stripe} {k : ℕ} {p : A} {t t' : Tree A} → Taken p s t t' k → Well key s t → Well key s t'
+  pub taken_well : {p : A} {s : Stripe} {k : ℕ} {t t' : Tree A} → Taken p s t t' k → Well key s t → Well key s t'
   taken_well (hit u) w = filled_well _ u w
   taken_well (out_left e b d) w = record {
     inside = w.inside;
@@ -109,7 +109,7 @@ module _ {A : Type 0} (key : A → Pair) where
   }
 
   -- nothing that is left has p's x
-  pub taken_new : {s : Stripe} {k : ℕ} {p : A} {t t' : Tree A} → Taken p s t t' k → Well key s t → New key (key p).x t'
+  pub taken_new : {p : A} {s : Stripe} {k : ℕ} {t t' : Tree A} → Taken p s t t' k → Well key s t → New key (key p).x t'
   taken_new {p = p} (hit {l = l} {r = r} u) w = all_filled _ u (under_new key (key p) l w.over_left) (under_new key (key p) r w.over_right)
   taken_new (out_left {r = r} e b d) w = (e, taken_new d w.left, all_map (λ q i. omega arith) r (well_in key _ r w.right))
   taken_new (out_right {l = l} e b d) w = (e, all_map (λ q i. omega arith) l (well_in key _ l w.left), taken_new d w.right)

@@ -32,7 +32,7 @@ module _ (ok : Pair → Bool) {closer : Pair → Pair → Bool} (R : Ranks close
       let b = best ok closer l in
       let d = best ok closer r in
       scan_append ok closer (closest closer f o) (members l) (members r)
-      ∙ (scan_from _ r ∙ (ap (λ g. closest closer g d) (scan_from _ l) ∙ (closest_assoc ok R (closest closer f o) b d ∙ closest_assoc ok R f o (closest closer b d))))
+      ∙ (scan_from (scan ok closer (closest closer f o) (members l)) r ∙ (ap (λ g. closest closer g d) (scan_from (closest closer f o) l) ∙ (closest_assoc ok R (closest closer f o) b d ∙ closest_assoc ok R f o (closest closer b d))))
 
   -- law: the scan of a tree's members finds the tree's best
   pub scan_best : (t : Tree Pair) → scan ok closer Nothing (members t) ≡ best ok closer t
