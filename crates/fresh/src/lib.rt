@@ -1,5 +1,6 @@
 // A pool's length, and the form that set up gives it.
 #![tactic(auto)]
+
 ghost use Rattle.std.specs.Prelude.{◌≡◌};
 ghost use Rattle.pools.specs.Cells.{slots_of, fresh};
 ghost use Rattle.pools.specs.Sound.{Pool};
