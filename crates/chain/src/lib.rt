@@ -1,5 +1,6 @@
 // The free chain's part of the check. Its verdict is the code: 0 where all is fine, 2 where it is not.
 #![tactic(auto)]
+
 ghost use Rattle.std.specs.Prelude.{◌≡◌};
 ghost use Rattle.pools.specs.Sound.{Pool};
 ghost use Rattle.pools.specs.Test.{free_fine, chain_fine};
