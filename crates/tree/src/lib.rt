@@ -31,6 +31,7 @@ pub enum Son {
 }
 
 // Whether a slot's x is met below it.
+#[tactic(auto, unfolding(pools::specs::Test::alone))]
 fn again(pool: &[u32], levels: u32, left: u32, right: u32, at: Stripe, x: u32) -> bool
     requires { Sought pool.now levels left (stripe_of at) × Sought pool.now levels right (stripe_of at) }
     ensures { not result ≡ alone x (stripe_of at) (tree_at pool.now levels left) (tree_at pool.now levels right) }
@@ -42,6 +43,7 @@ fn again(pool: &[u32], levels: u32, left: u32, right: u32, at: Stripe, x: u32) -
 }
 
 // Whether a slot's number is one of the pool's, and its x lies in its stripe.
+#[tactic(auto, unfolding(pools::specs::Test::slot_fine))]
 fn slot_fine(pool: &[u32], slot: u32, at: Stripe) -> bool
     requires { 1 ≤ slot }
     ensures { result ≡ slot_fine pool.now slot (stripe_of at) }
