@@ -1,5 +1,6 @@
 // The tree part of the check. A slot is tested before anything below it is looked at.
 #![tactic(auto)]
+
 ghost use Rattle.std.specs.Prelude.{◌≡◌, not, ◌≤◌};
 ghost use Rattle.pools.specs.Cells.{tree_at};
 ghost use Rattle.pools.specs.Links.{Fits};

@@ -3,7 +3,6 @@ use native.Mathlib.Omega.{arith}
 use Rattle.stripes.proofs.Stripes.{low_root}
 use Rattle.tree.proofs.Sons.{fine_fits}
 use Rattle.tree.proofs.Root.{no_root, bad_root, good_root}
-use borrow.Author.Rules.{rules}
 use Rattle.tree.proofs.check_root.Goals as goal
 
 pub returns-then-root-eq0 : goal.returns-then-root-eq0

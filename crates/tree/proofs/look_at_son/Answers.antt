@@ -3,7 +3,6 @@ use mathlib.Core.Path.{sym, ◌∙◌}
 use native.Mathlib.Omega.{arith}
 use Rattle.tree.specs.Checked.{empty, leaf, branch, bad}
 use Rattle.tree.proofs.Sons.{fine_fits, too_deep, faulty_slot, faulty_order}
-use borrow.Author.Rules.{rules}
 use Rattle.tree.proofs.look_at_son.Goals as goal
 
 pub returns-then-son-eq0 : goal.returns-then-son-eq0
