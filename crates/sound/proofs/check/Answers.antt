@@ -1,6 +1,5 @@
 -- The answer ends with the verdict. Nothing is assumed.
 use Rattle.sound.proofs.Judged.{check_answers}
-use borrow.Author.Rules.{rules}
 use Rattle.sound.proofs.check.Goals as goal
 
 pub returns : goal.returns

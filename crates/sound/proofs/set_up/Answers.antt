@@ -5,7 +5,6 @@ use mathlib.Core.List.{[], ◌∷◌}
 use Rattle.kinds.proofs.Tables.{gives, refuses, accepts}
 use Rattle.pools.proofs.Decided.{pool_true}
 use Rattle.sound.specs.Promises.{length_line, set_up}
-use borrow.Author.Rules.{rules}
 use Rattle.sound.proofs.set_up.Goals as goal
 
 pub write_fresh-requires : goal.write_fresh-requires
