@@ -1,5 +1,6 @@
 // The free chain's part of the check. Its verdict is the code: 0 where all is fine, 2 where it is not.
 #![tactic(auto)]
+
 ghost use Rattle.std.specs.Prelude.{◌≡◌};
 ghost use Rattle.pools.specs.Sound.{Pool};
 ghost use Rattle.pools.specs.Test.{free_fine, chain_fine};
@@ -8,6 +9,7 @@ ghost use Rattle.chain.specs.Judged.{verdict, rest_verdict};
 use kinds::codes;
 
 // Whether a slot's number is one of the pool's, and the slot is in the free form.
+#[tactic(auto, unfolding(pools::specs::Test::free_fine, pools::specs::Cells::is_free))]
 fn free_fine(pool: &[u32], slot: u32) -> bool
     ensures { result ≡ free_fine pool.now slot }
 {
@@ -51,6 +53,7 @@ fn check_chain(pool: &[u32], first: u32, count: usize) -> u32
 }
 
 // Whether a tree of so many slots has as many as the header says, and the chain the remaining ones.
+#[tactic(auto, unfolding(crate::specs::Judged::rest_verdict))]
 pub fn check_rest(pool: &[u32], size: u64) -> u32
     requires { Pool pool.now }
     ensures { result ≡ rest_verdict pool.now size }

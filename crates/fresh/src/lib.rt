@@ -1,11 +1,13 @@
 // A pool's length, and the form that set up gives it.
 #![tactic(auto)]
+
 ghost use Rattle.std.specs.Prelude.{◌≡◌};
 ghost use Rattle.pools.specs.Cells.{slots_of, fresh};
 ghost use Rattle.pools.specs.Sound.{Pool};
 ghost use Rattle.pools.specs.Test.{is_pool};
 
 // Whether a pool has the length that its slots and header take.
+#[tactic(auto, unfolding(pools::specs::Test::is_pool))]
 pub fn is_pool(pool: &[u32]) -> bool
     ensures { result ≡ is_pool pool.now }
 {

@@ -1,5 +1,6 @@
 // The search for x below a slot, by halving the stripe that it is in.
 #![tactic(auto)]
+
 ghost use Rattle.std.specs.Prelude.{◌≡◌};
 ghost use Rattle.trees.specs.Changes.{met};
 ghost use Rattle.pools.specs.Cells.{tree_at};

@@ -1,5 +1,6 @@
 // The tree part of the check. A slot is tested before anything below it is looked at.
 #![tactic(auto)]
+
 ghost use Rattle.std.specs.Prelude.{◌≡◌, not, ◌≤◌};
 ghost use Rattle.pools.specs.Cells.{tree_at};
 ghost use Rattle.pools.specs.Links.{Fits};
@@ -31,6 +32,7 @@ pub enum Son {
 }
 
 // Whether a slot's x is met below it.
+#[tactic(auto, unfolding(pools::specs::Test::alone))]
 fn again(pool: &[u32], levels: u32, left: u32, right: u32, at: Stripe, x: u32) -> bool
     requires { Sought pool.now levels left (stripe_of at) × Sought pool.now levels right (stripe_of at) }
     ensures { not result ≡ alone x (stripe_of at) (tree_at pool.now levels left) (tree_at pool.now levels right) }
@@ -42,6 +44,7 @@ fn again(pool: &[u32], levels: u32, left: u32, right: u32, at: Stripe, x: u32) -
 }
 
 // Whether a slot's number is one of the pool's, and its x lies in its stripe.
+#[tactic(auto, unfolding(pools::specs::Test::slot_fine))]
 fn slot_fine(pool: &[u32], slot: u32, at: Stripe) -> bool
     requires { 1 ≤ slot }
     ensures { result ≡ slot_fine pool.now slot (stripe_of at) }
