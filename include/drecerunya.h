@@ -3,7 +3,7 @@
  *
  * LINKING
  *
- *     rt staticlib drecerunya                      writes target/staticlib/libdrecerunya.a
+ *     embed/archive                                writes target/staticlib/libdrecerunya.a
  *     cc -Iinclude program.c target/staticlib/libdrecerunya.a -o program
  *
  * The archive is for x86-64 Linux, serves position-independent programs and shared libraries, and needs nothing else: no C

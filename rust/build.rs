@@ -1,4 +1,4 @@
-//! Says where `libdrecerunya.a` is: in the folder that `DRECERUNYA_LIB` names, or where `rt staticlib drecerunya` writes it.
+//! Says where `libdrecerunya.a` is: in the folder that `DRECERUNYA_LIB` names, or where `embed/archive` writes it.
 use std::env;
 use std::path::PathBuf;
 
@@ -8,7 +8,7 @@ fn main() {
     let folder = env::var_os("DRECERUNYA_LIB").map_or_else(|| here.join("../target/staticlib"), PathBuf::from);
     let archive = folder.join("libdrecerunya.a");
     if !archive.is_file() {
-        println!("cargo:warning={} is not there: run `rt staticlib drecerunya`, or set DRECERUNYA_LIB to its folder", archive.display());
+        println!("cargo:warning={} is not there: run `embed/archive`, or set DRECERUNYA_LIB to its folder", archive.display());
     }
     if env::var("CARGO_CFG_TARGET_ARCH").as_deref() != Ok("x86_64") {
         println!("cargo:warning=libdrecerunya.a links only into x86-64 programs");

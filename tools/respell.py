@@ -18,8 +18,10 @@ DECLARED = re.compile(r"^\s*(?:abbrev |unfoldable |pub |data |record )*(" + NAME
 WORD = re.compile(r"[^\s(){}.;,@\"«»:`=]+")
 GHOST = re.compile(r"ghost\s+use\b[^;]*;|(?:requires|ensures)\s*(?:\w+\s*)?(\{)|#\[tactic\([^\n]*\]|#!\[tactic\([^\n]*\]")
 OLD_WORDS = {"getD": "get_or"}
-# a lemma of one file whose name is now that of a definition which the file imports
-ALONE = {"crates/runs/proofs/Fits.antt": {"by_lines": "by_lines_lem"}}
+# what a file, or the files of a folder, call otherwise than the table: a lemma whose name is now that of a definition which the file imports,
+# and the calls by name
+CALLS = {"set-up": "set_up", "smallest-x": "smallest_x", "largest-x": "largest_x", "smallest-y": "smallest_y"}
+ALONE = {"crates/runs/proofs/Fits.antt": {"by_lines": "by_lines_lem"}, "crates/runs/": CALLS, "crates/marked/": CALLS}
 
 
 def lemma_files():
@@ -54,7 +56,9 @@ def table():
 
 
 def turner(rows, path=None):
-    rows = rows | ALONE.get(path, {})
+    for place, own in ALONE.items():
+        if path and path.startswith(place):
+            rows = rows | own
 
     def one(m):
         w = m[0]
@@ -123,7 +127,7 @@ def main():
     for f in sorted(glob.glob("crates/*/src/**/*.rt", recursive=True)):
         rewrite(f, lambda t: source(t, code, spans))
     for f in sorted(glob.glob("crates/*/must-fail/*.edit")):
-        rewrite(f, code)
+        rewrite(f, turner(rows, f)[0])
     for f in ["README.md", *sorted(glob.glob("docs/**/*.md", recursive=True))]:
         if os.path.basename(f) != "PORT.md":
             rewrite(f, spans)

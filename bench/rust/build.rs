@@ -1,4 +1,4 @@
-//! Says where `libdrecerunya.a` is: in the folder that `DRECERUNYA_LIB` names, or where `rt staticlib drecerunya` writes it.
+//! Says where `libdrecerunya.a` is: in the folder that `DRECERUNYA_LIB` names, or where `embed/archive` writes it.
 use std::env;
 use std::path::PathBuf;
 

@@ -34,7 +34,7 @@
 //! # Linking
 //!
 //! The calls are those of `libdrecerunya.a`, which is for x86-64 Linux and needs nothing else. The build looks for it in the folder
-//! that the environment variable `DRECERUNYA_LIB` names, and else in `../target/staticlib`, where `rt staticlib drecerunya` writes it.
+//! that the environment variable `DRECERUNYA_LIB` names, and else in `../target/staticlib`, where `embed/archive` writes it.
 #![no_std]
 #![deny(missing_docs)]
 #![deny(unsafe_op_in_unsafe_fn)]

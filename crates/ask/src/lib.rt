@@ -1,5 +1,6 @@
 // The questions for one pair, and for one strip.
 #![tactic(auto)]
+
 ghost use Rattle.kinds.specs.Promise.{Answers};
 ghost use Rattle.plain.specs.Plain.{limits};
 ghost use Rattle.pools.specs.Sound.{Sound};

@@ -1,5 +1,6 @@
 // The stored book: the check, and then the book of the checked pool.
 #![tactic(auto)]
+
 ghost use Rattle.kinds.specs.Promise.{Writes};
 ghost use Rattle.sound.specs.Promises.{behind_check};
 ghost use Rattle.promises.specs.Promises.{saved};

@@ -1,5 +1,6 @@
 // The cells of a pool, by name. Each slot, and the header, has PER_SLOT of them.
 #![tactic(auto)]
+
 ghost use Rattle.std.specs.Prelude.{◌≡◌, set};
 ghost use Rattle.pools.specs.Cells.{mark_of, root_of, free_of, count_of, pair_at, left_at, right_at, put_pair, put_links, put_free, put_header};
 ghost use Rattle.pools.specs.Links.{Fits, son_at, link_cell};

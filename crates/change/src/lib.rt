@@ -1,5 +1,6 @@
 // The changes, each by its code.
 #![tactic(auto)]
+
 ghost use Rattle.kinds.specs.Answer.{ended};
 ghost use Rattle.pools.specs.Sound.{Sound};
 ghost use Rattle.promises.specs.Promises.{insertion, deletion, opening, closing};

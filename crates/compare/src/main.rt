@@ -1,5 +1,6 @@
 // Many pseudo-random calls, held to a plain list that is scanned from top to bottom: every answer, and the cells and bytes that it leaves.
 #![tactic(auto)]
+
 mod desk;
 mod plainly;
 mod step;

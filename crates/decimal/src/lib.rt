@@ -1,5 +1,6 @@
 // A word as a decimal number of 32 bits.
 #![tactic(auto)]
+
 ghost use Rattle.std.specs.Prelude.{◌≡◌};
 ghost use Rattle.decimal.specs.Decimal.{is_digit, leading_zero};
 ghost use Rattle.decimal.specs.Reading.{digits_of, number_in};

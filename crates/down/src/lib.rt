@@ -1,5 +1,6 @@
 // Insertion: x is searched for, and a pair whose x is new goes down from the root.
 #![tactic(auto)]
+
 ghost use Rattle.std.specs.Prelude.{◌≡◌};
 ghost use Rattle.pools.specs.Cells.{stored};
 ghost use Rattle.pools.specs.Laid.{inserted};

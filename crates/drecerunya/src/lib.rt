@@ -1,5 +1,6 @@
 // The C interface: a thin function for each call. include/drecerunya.h declares them side by side.
 #![tactic(auto)]
+
 mod asking;
 mod changing;
 mod list;

@@ -1,5 +1,6 @@
 // What the filling of a hole does at a slot: its heir is found, whose pair moves up, or the slot is given up.
 #![tactic(auto)]
+
 ghost use Rattle.std.specs.Prelude.{◌≡◌};
 ghost use Rattle.heirs.specs.Heirs.{Sons, Heirs, Promotes, promoted, Releases, released};
 

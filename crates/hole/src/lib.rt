@@ -1,5 +1,6 @@
 // Deletion: x is found on its way down, and the hole that its pair leaves is filled.
 #![tactic(auto)]
+
 ghost use Rattle.pools.specs.Sound.{Sound};
 ghost use Rattle.hole.specs.Hole.{Hole, Freed, Deletes};
 

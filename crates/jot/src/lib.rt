@@ -1,5 +1,6 @@
 // A match is written into the lent cells, where there is room for it.
 #![tactic(auto)]
+
 ghost use Rattle.std.specs.Prelude.{◌≡◌, ◌-◌, ◌≤◌};
 ghost use Rattle.plain.specs.Plain.{in_range};
 ghost use Rattle.walks.specs.Walks.{list_own, room_of};

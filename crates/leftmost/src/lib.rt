@@ -1,6 +1,7 @@
 // Smallest x over a sound pool: a loop, while right sons wait in rows. A stop waits for a slot above whose left son has given
 // nothing so far; slot 0 is an empty stop, where the one that came last is next. The crate `rightmost` has the mirror.
 #![tactic(auto)]
+
 ghost use Rattle.std.specs.Prelude.{◌≡◌};
 ghost use Rattle.stripes.specs.Stripe.{all_levels, root_stripe};
 ghost use Rattle.plain.specs.Plain.{limits};

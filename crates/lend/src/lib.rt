@@ -1,5 +1,6 @@
 // The calls on a checked pool that write into a second lent slice.
 #![tactic(auto)]
+
 mod list;
 mod saving;
 

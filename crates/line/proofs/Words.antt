@@ -5,21 +5,20 @@ use mathlib.Core.Bool.{Bool, true, false, true≢false}
 use mathlib.Core.List.{List, [], ◌∷◌, ◌++◌, map}
 use native.Mathlib.Omega.{arith}
 use lib.Dec.{eqb}
-use lib.ListN.{length, take, drop, length-drop}
-use lib.Seq.{take-length, take_all}
-use borrow.Author.Tests.{eqb-true, eqb-false}
-use Rattle.bytes.specs.Bytes.{index_of, index_after, slice}
+use lib.ListN.{length, get_or, take, drop, length-drop, drop_of_length-le}
+use lib.Seq.{take_all, drop-cons}
+use borrow.Author.Tests.{eqb-true, eqb-false, eq-eqb, ne_eqb}
 use Rattle.kinds.proofs.Tests.{on}
 use Rattle.decimal.specs.declared.Number.TheVariants.{Is, Not}
 use Rattle.line.specs.declared.Numbers.TheVariants.{Other}
 use Rattle.line.specs.Line.{space, led, words, all_numbers}
 use Rattle.decimal.specs.Decimal.{value, is_number}
-use Rattle.line.specs.Reading.{word_length, counted, numbers_after}
+use Rattle.line.specs.Reading.{index_of, word_length, counted, numbers_after}
 use Rattle.decimal.specs.Reading.{number_if, number_in}
 
 -- law: a word is no longer than the text
 pub word_within : (t : List ℕ) → word_length t ≤ length t
-unfolding word_length index_of index_after
+unfolding word_length index_of
 word_within [] = omega arith
 word_within (b ∷ bs) = on (eqb b space)
     (λ e. rw e (omega arith))
@@ -27,7 +26,7 @@ word_within (b ∷ bs) = on (eqb b space)
 
 -- law: a text without a space is one word
 pub last_word : (t : List ℕ) → word_length t ≡ length t → words t ≡ take (word_length t) t ∷ []
-unfolding word_length index_of index_after words
+unfolding word_length index_of words
 last_word [] h = refl
 last_word (b ∷ bs) h = on (eqb b space)
     (λ e. absurd (let k = rw e at h in omega (arith, k)))
@@ -35,20 +34,40 @@ last_word (b ∷ bs) h = on (eqb b space)
 
 -- law: with a space, the first word and those behind it
 pub more_words : (t : List ℕ) → word_length t < length t → words t ≡ take (word_length t) t ∷ words (drop (suc (word_length t)) t)
-unfolding word_length index_of index_after words
+unfolding word_length index_of words
 more_words [] h = absurd (omega (arith, h))
 more_words (b ∷ bs) h = on (eqb b space)
     (λ e. rw e refl)
     (λ e. let k = rw e at h in rw e (rw (more_words bs (omega (arith, k))) refl))
 
--- law: where the space is found, the word ends
-pub found_space : (t : List ℕ) (r : ℕ) → r ≡ 0 + index_of space (slice 0 (length t) t) → r ≡ word_length t
-unfolding word_length slice
-found_space t r e = let z = take-length t in let f = rw z at e in omega arith
+-- what stays so at each byte: no space stands before it, and the word goes on behind it
+abbrev pub Searched : List ℕ → ℕ → Type 0
+Searched t i = word_length t ≡ i + word_length (drop i t)
 
-is_number_lem : (ok : Bool) (n a : ℕ) → number_if ok n ≡ Is a → (ok ≡ true) × (n ≡ a)
-is_number_lem true n a e = (refl, cc)
-is_number_lem false n a e = (cc, cc)
+module _ (t : List ℕ) (i : ℕ) (S : Searched t i) where
+  -- law: with no byte left, the text is one word
+  pub no_byte : length t ≤ i → i ≡ word_length t
+  unfolding word_length index_of
+  no_byte h = let s = S in let k = rw (drop_of_length-le t h) at s in omega (arith, k)
+
+  module _ (h : i < length t) where
+    -- law: where the space is found, the word ends
+    pub found_space : get_or t i 0 ≡ 32 → i ≡ word_length t
+    unfolding word_length index_of
+    found_space e = let s = S in let k = rw (drop-cons t i 0 h, eq-eqb (get_or t i 0) space e) at s in omega (arith, k)
+
+    -- law: another byte
+    pub next_byte : (get_or t i 0 ≡ 32 → ⊥) → Searched t (i + 1)
+    unfolding word_length index_of
+    next_byte d =
+        let s = S in
+        let k = rw (drop-cons t i 0 h, ne_eqb (get_or t i 0) space d) at s in
+        let z : i + 1 ≡ suc i = omega arith in
+        rw z (omega (arith, k))
+
+a_number : (ok : Bool) (n a : ℕ) → number_if ok n ≡ Is a → (ok ≡ true) × (n ≡ a)
+a_number true n a e = (refl, cc)
+a_number false n a e = (cc, cc)
 
 no_number : (ok : Bool) (n : ℕ) → number_if ok n ≡ Not → ok ≡ false
 no_number true n e = cc
@@ -78,13 +97,13 @@ module _ (vs t : List ℕ) (n : ℕ) (en : n ≡ word_length t) where
     -- law: the last number
     pub last_number : n ≡ length t → counted (vs ++ (a ∷ [])) ≡ numbers_after vs (words t)
     unfolding number_in numbers_after
-    last_number q = let f = is_number_lem (is_number (take n t)) (value (take n t)) a e in rw (last_word t (sym en ∙ q), ← en) (simp (f.0, f.1))
+    last_number q = let f = a_number (is_number (take n t)) (value (take n t)) a e in rw (last_word t (sym en ∙ q), ← en) (simp (f.0, f.1))
 
     -- law: a number and those behind it
     pub numbers_go_on : (n ≡ length t → ⊥) → (u : List ℕ) → u ≡ drop (n + 1) t → numbers_after (vs ++ (a ∷ [])) (words u) ≡ numbers_after vs (words t)
     unfolding number_in numbers_after
     numbers_go_on d u eu =
-        let f = is_number_lem (is_number (take n t)) (value (take n t)) a e in
+        let f = a_number (is_number (take n t)) (value (take n t)) a e in
         let k = word_within t in
         let z : n + 1 ≡ suc n = omega arith in
         rw (more_words t (omega (arith, d, en)), ← en, eu, z) (simp (f.0, f.1, append_one vs (map value (words (drop (suc n) t))) a))

@@ -1,12 +1,16 @@
 -- How the code reads a line: word by word, the numbers counted.
-use Rattle.std.specs.Prelude.{ℕ, ◌+◌, cond, List, [], ◌∷◌, ◌++◌, map}
-use Rattle.bytes.specs.Bytes.{index_of}
+use Rattle.std.specs.Prelude.{ℕ, suc, cond, List, [], ◌∷◌, ◌++◌, map, eqb}
 use Rattle.line.specs.declared.Asked.{Asked}
 use Rattle.line.specs.declared.Asked.TheVariants.{Malformed}
 use Rattle.line.specs.declared.Numbers.{Numbers}
 use Rattle.line.specs.declared.Numbers.TheVariants.{Other, One, Two, Three}
 use Rattle.line.specs.Line.{space, all_numbers, meant}
 use Rattle.decimal.specs.Decimal.{value}
+
+-- the place of the first byte x, the length if there is none
+unfoldable pub index_of : ℕ → List ℕ → ℕ
+index_of x [] = 0
+index_of x (b ∷ bs) = let rest = index_of x bs in cond (eqb b x) 0 (suc rest)
 
 -- the bytes before the first space
 unfoldable pub word_length : List ℕ → ℕ

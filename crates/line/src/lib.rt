@@ -1,10 +1,10 @@
 // Reading a line of the script: a letter, and decimal numbers after single spaces.
 #![tactic(auto)]
+
 ghost use Rattle.std.specs.Prelude.{◌≤◌, ◌≡◌, [], ◌∷◌, length};
 ghost use Rattle.line.specs.Line.{asked_by, words};
 ghost use Rattle.line.specs.Reading.{word_length, numbers_after, of_letter};
 
-use bytes::scan;
 use decimal::{Number, number_in};
 
 // The most bytes of a line before its newline.
@@ -37,7 +37,12 @@ fn word_length(text: &[u8]) -> usize
     ensures value { result ≡ word_length text.now }
     ensures upper_bound { result ≤ length text.now }
 {
-    scan::find(text, 0, text.len(), SPACE)
+    for i in 0..text.len() {
+        if text[i] == SPACE {
+            return i;
+        }
+    }
+    text.len()
 }
 
 fn after_two(a: u32, b: u32, text: &[u8]) -> Numbers

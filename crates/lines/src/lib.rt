@@ -1,5 +1,6 @@
 // A line of the script: what it asks is done, on a pool that is known to be sound, and printed. Nothing here checks the pool.
 #![tactic(auto)]
+
 ghost use Rattle.std.specs.Prelude.{◌+◌, ◌*◌, ◌/◌, ◌≤◌, length};
 ghost use Rattle.pools.specs.Sound.{Sound};
 ghost use Rattle.lines.specs.Script.{done_by, line_answered, LineKept};

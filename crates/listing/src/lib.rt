@@ -1,5 +1,6 @@
 // The listing over a sound pool: the walk counts the matches met so far, which is the place of the next one.
 #![tactic(auto)]
+
 ghost use Rattle.std.specs.Prelude.{false, cond, [], suc, ◌-◌, ◌≤◌};
 ghost use Rattle.pools.specs.Cells.{root_of, tree_at};
 ghost use Rattle.plain.specs.Plain.{limits};

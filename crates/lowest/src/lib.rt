@@ -1,5 +1,6 @@
 // Smallest y over a sound pool.
 #![tactic(auto)]
+
 ghost use Rattle.std.specs.Prelude.{◌≡◌, suc, ◌≤◌, ltb, leb};
 ghost use Rattle.pools.specs.Cells.{root_of, tree_at};
 ghost use Rattle.stripes.specs.Shape.{stripe_of};

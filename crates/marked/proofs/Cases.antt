@@ -16,17 +16,18 @@ use Rattle.kinds.specs.Promise.{Line, by_lines, given}
 use Rattle.kinds.proofs.Tables.{refused_by}
 use Rattle.stripes.specs.Stripe as stripe
 use Rattle.pools.specs.Test.{is_pool, slot_fine, alone, fine, below, root_fine, free_fine, chain_fine, rest_fine, is_sound}
-use Rattle.walks.specs.Walks.{smallest_x, largest_x, smallest_y, listing}
+use Rattle.walks.specs.Walks as walks
+use Rattle.walks.specs.Walks.{listing}
 use Rattle.pools.proofs.Decided.{pool_true}
 use Rattle.kinds.proofs.Tests.{on}
-use Rattle.sound.specs.Promises.{length_line, set_up}
+use Rattle.sound.specs.Promises.{length_line}
 use Rattle.fresh.proofs.Lengths.{odd, under_eight, long}
 use Rattle.sound.proofs.Meaning as meaning
 use Rattle.plain.specs.Books.{plain_insert, plain_delete, plain_smallest_x, plain_largest_x, plain_smallest_y, plain_listing}
 use Rattle.plain.specs.Strips.{plain_open, plain_close, plain_first, plain_covers}
 use Rattle.promises.specs.Promises.{insertion, deletion, largest_x_asked, smallest_x_asked, smallest_y_asked, listing_asked, opening, closing, first_to_end, list_covers}
 use Rattle.sound.specs.Promises as check_first
-use Rattle.runs.specs.Calls.{Call, set_up_lem, check, insert, delete, smallest_x_lem, largest_x_lem, smallest_y_lem, list, opens, closes, first, last, earliest, covers, meets, contains, save, promised, lent_by, Each}
+use Rattle.runs.specs.Calls.{Call, set_up, check, insert, delete, smallest_x, largest_x, smallest_y, list, opens, closes, first, last, earliest, covers, meets, contains, save, promised, lent_by, Each}
 use Rattle.marked.specs.Cases.{Serves, Refuses, Holds, cases}
 
 -- the length of a pool, 4(n + 1) with n 1 to 4,095, as a test of the length alone
@@ -45,7 +46,7 @@ serve : {l : ℕ} → pool_length l ≡ true → (c : List ℕ) → length c ≡
 unfolding promised five numbers_of
 serve t c e =
     let p = pool_true c (rw (pool_length_lem c, e) t) in
-    let d = (given (set_up c) c []).cells in
+    let d = (given (check_first.set_up c) c []).cells in
     record { set_up_done = rw (meaning.set_up_done c p); check_done = rw (meaning.check_done d (meaning.set_up_sound c p)) }
 
 -- the first line of every call's table is that on the pool's length
@@ -54,14 +55,14 @@ record Starts (c : List ℕ) (ls : List Line) : Type 0 where
   whole : ls ≡ length_line c ∷ rest
 
 starts : (c : List ℕ) (k : Call) → Starts c (promised c k).lines
-unfolding promised set_up check_first.check
-starts c set_up_lem = record { rest = _; whole = refl }
+unfolding promised check_first.set_up check_first.check
+starts c set_up = record { rest = _; whole = refl }
 starts c check = record { rest = _; whole = refl }
 starts c (insert p) = record { rest = _; whole = refl }
 starts c (delete p) = record { rest = _; whole = refl }
-starts c (smallest_x_lem q) = record { rest = _; whole = refl }
-starts c (largest_x_lem q) = record { rest = _; whole = refl }
-starts c (smallest_y_lem x0 x1) = record { rest = _; whole = refl }
+starts c (smallest_x q) = record { rest = _; whole = refl }
+starts c (largest_x q) = record { rest = _; whole = refl }
+starts c (smallest_y x0 x1) = record { rest = _; whole = refl }
 starts c (list q out) = record { rest = _; whole = refl }
 starts c (opens n) = record { rest = _; whole = refl }
 starts c (closes n) = record { rest = _; whole = refl }
@@ -84,5 +85,5 @@ refuse f c e k =
 
 -- law: P1 to P9, every row
 pub marked : Each Holds cases
-unfolding five numbers_of promised set_up by_lines is_pool fresh free_slots insertion plain_insert is_sound root_fine slot_fine below fine alone met stripe.holds rest_fine chain_fine free_fine is_free stored_from tree_at has_x has inserted lay go_down beats largest_x_asked plain_largest_x largest_x_of largest_x deletion plain_delete deleted fill take_out smallest_x_asked plain_smallest_x smallest_x_of smallest_x smallest_y_asked plain_smallest_y smallest_y_of smallest_y listing_asked plain_listing listing opening plain_open closing plain_close first_to_end plain_first list_covers plain_covers
+unfolding five numbers_of promised check_first.set_up by_lines is_pool fresh free_slots insertion plain_insert is_sound root_fine slot_fine below fine alone met stripe.holds rest_fine chain_fine free_fine is_free stored_from tree_at has_x has inserted lay go_down beats largest_x_asked plain_largest_x largest_x_of walks.largest_x deletion plain_delete deleted fill take_out smallest_x_asked plain_smallest_x smallest_x_of walks.smallest_x smallest_y_asked plain_smallest_y smallest_y_of walks.smallest_y listing_asked plain_listing listing opening plain_open closing plain_close first_to_end plain_first list_covers plain_covers
 marked = (refl, (refl, (refl, (refl, (refl, (serve refl, (serve refl, (refuse refl, (refuse refl, (refuse refl, (refl, (refl, (refl, (refl, tt))))))))))))))

@@ -134,9 +134,9 @@ module _ (g : Program) (keeps : KeepsAll g) {d : List ℕ} (s : Sound d) where
     finds : Finds g d p
     unfolding promised
     finds = record {
-      smallest_x_lem = λ t. rw (keeps t d (calls.smallest_x_lem own)) found_smallest;
-      largest_x_lem = λ t. rw (keeps t d (calls.largest_x_lem own)) found_largest;
-      smallest_y_lem = λ t. rw (keeps t d (calls.smallest_y_lem p.x p.x)) found_lowest;
+      smallest_x = λ t. rw (keeps t d (calls.smallest_x own)) found_smallest;
+      largest_x = λ t. rw (keeps t d (calls.largest_x own)) found_largest;
+      smallest_y = λ t. rw (keeps t d (calls.smallest_y p.x p.x)) found_lowest;
       listing = λ t out r. rw (keeps t d (calls.list own out)) (found_listed out r);
       lists = λ t out r. rw (keeps t d (calls.list own out)) (found_written out r);
     }
@@ -182,9 +182,9 @@ module _ (g : Program) (keeps : KeepsAll g) {d : List ℕ} (s : Sound d) where
     misses : Misses g d x
     unfolding promised
     misses = record {
-      smallest_x_lem = λ t y1. rw (keeps t d (calls.smallest_x_lem (limits x x y1))) (missed_smallest y1);
-      largest_x_lem = λ t y1. rw (keeps t d (calls.largest_x_lem (limits x x y1))) (missed_largest y1);
-      smallest_y_lem = λ t. rw (keeps t d (calls.smallest_y_lem x x)) missed_lowest;
+      smallest_x = λ t y1. rw (keeps t d (calls.smallest_x (limits x x y1))) (missed_smallest y1);
+      largest_x = λ t y1. rw (keeps t d (calls.largest_x (limits x x y1))) (missed_largest y1);
+      smallest_y = λ t. rw (keeps t d (calls.smallest_y x x)) missed_lowest;
       listing = λ t y1 out. rw (keeps t d (calls.list (limits x x y1) out)) (missed_listed y1 out);
       lists = λ t y1 out. rw (keeps t d (calls.list (limits x x y1) out)) (missed_written y1 out);
     }

@@ -19,9 +19,8 @@ use Rattle.plain.specs.Strips.{covers_limits, last_limits, plain_open, plain_clo
 use Rattle.pools.specs.Cells.{stored}
 use Rattle.pages.specs.Book.{plain_save}
 use Rattle.sound.specs.Promises as check_first
-use Rattle.sound.specs.Promises.{set_up}
 use Rattle.promises.specs.Promises.{insertion, deletion, smallest_x_asked, largest_x_asked, smallest_y_asked, listing_asked, opening, closing, first_to_end, last_to_end, earliest_start, list_covers, list_meets, list_contains, saved}
-use Rattle.runs.specs.Calls.{Call, set_up_lem, check, insert, delete, smallest_x_lem, largest_x_lem, smallest_y_lem, list, opens, closes, first, last, earliest, covers, meets, contains, save, promised, lent_by, play, SmallX, Each}
+use Rattle.runs.specs.Calls.{Call, set_up, check, insert, delete, smallest_x, largest_x, smallest_y, list, opens, closes, first, last, earliest, covers, meets, contains, save, promised, lent_by, play, SmallX, Each}
 use Rattle.runs.specs.Playing.{play_all, plainly_all, Same, Agrees}
 use Rattle.runs.proofs.Played.{plays_all}
 use Rattle.marked.specs.Wrong.{is_refusal, visits_of, Program, Kind, kind_of, writes_of, KeepsTo, KeepsAll, AlwaysRefuses, OneAnswer, Idle, Pretends, MadeUp, Wrong, refuses, constant, idle, pretends, made_up, Served, runs}
@@ -53,14 +52,14 @@ finding_serves no_pair = refl
 
 -- what no line of a call's table refuses is no refusal
 serves : (c : List ℕ) (k : Call) → is_refusal (promised c k).made.answer.outcome ≡ false
-unfolding promised set_up check_first.check insertion plain_insert deletion plain_delete smallest_x_asked plain_smallest_x largest_x_asked plain_largest_x smallest_y_asked plain_smallest_y listing_asked plain_listing opening plain_open closing plain_close first_to_end plain_first last_to_end plain_last earliest_start plain_earliest list_covers plain_covers list_meets plain_meets list_contains plain_contains saved plain_save
-serves c set_up_lem = refl
+unfolding promised check_first.set_up check_first.check insertion plain_insert deletion plain_delete smallest_x_asked plain_smallest_x largest_x_asked plain_largest_x smallest_y_asked plain_smallest_y listing_asked plain_listing opening plain_open closing plain_close first_to_end plain_first last_to_end plain_last earliest_start plain_earliest list_covers plain_covers list_meets plain_meets list_contains plain_contains saved plain_save
+serves c set_up = refl
 serves c check = refl
 serves c (insert p) = refl
 serves c (delete p) = refl
-serves c (smallest_x_lem q) = finding_serves (smallest_x_of q (stored c))
-serves c (largest_x_lem q) = finding_serves (largest_x_of q (stored c))
-serves c (smallest_y_lem x0 x1) = finding_serves (smallest_y_of x0 x1 (stored c))
+serves c (smallest_x q) = finding_serves (smallest_x_of q (stored c))
+serves c (largest_x q) = finding_serves (largest_x_of q (stored c))
+serves c (smallest_y x0 x1) = finding_serves (smallest_y_of x0 x1 (stored c))
 serves c (list q out) = refl
 serves c (opens n) = refl
 serves c (closes n) = refl
@@ -74,14 +73,14 @@ serves c (save bytes) = refl
 
 -- and its visits are those of its walk
 visits_are : (c : List ℕ) (k : Call) → (promised c k).made.answer.visits ≡ visits_of c k
-unfolding promised set_up check_first.check insertion plain_insert deletion plain_delete smallest_x_asked plain_smallest_x largest_x_asked plain_largest_x smallest_y_asked plain_smallest_y listing_asked plain_listing opening plain_open closing plain_close first_to_end plain_first last_to_end plain_last earliest_start plain_earliest list_covers plain_covers list_meets plain_meets list_contains plain_contains saved plain_save
-visits_are c set_up_lem = refl
+unfolding promised check_first.set_up check_first.check insertion plain_insert deletion plain_delete smallest_x_asked plain_smallest_x largest_x_asked plain_largest_x smallest_y_asked plain_smallest_y listing_asked plain_listing opening plain_open closing plain_close first_to_end plain_first last_to_end plain_last earliest_start plain_earliest list_covers plain_covers list_meets plain_meets list_contains plain_contains saved plain_save
+visits_are c set_up = refl
 visits_are c check = refl
 visits_are c (insert p) = refl
 visits_are c (delete p) = refl
-visits_are c (smallest_x_lem q) = refl
-visits_are c (largest_x_lem q) = refl
-visits_are c (smallest_y_lem x0 x1) = refl
+visits_are c (smallest_x q) = refl
+visits_are c (largest_x q) = refl
+visits_are c (smallest_y x0 x1) = refl
 visits_are c (list q out) = refl
 visits_are c (opens n) = refl
 visits_are c (closes n) = refl

@@ -6,7 +6,7 @@ use Rattle.pools.specs.Cells.{per_slot, root_of, free_of, pair_at, left_at, righ
 use Rattle.plain.specs.Plain.{limits}
 use Rattle.plain.specs.Strips.{number_of}
 use Rattle.kinds.specs.Promise.{Result}
-use Rattle.runs.specs.Calls.{Call, set_up_lem, check, insert, delete, smallest_x_lem, largest_x_lem, smallest_y_lem, list, opens, closes, first, covers, lent_by, play}
+use Rattle.runs.specs.Calls.{Call, set_up, check, insert, delete, smallest_x, largest_x, smallest_y, list, opens, closes, first, covers, lent_by, play}
 
 -- code, x, y, count listed, visits
 abbrev pub numbers : (code x y count visits : ℕ) → Five
@@ -64,8 +64,8 @@ lent_cells n = replicate (per_slot * (n + 1)) 77
 
 -- set up is done on any cells of this length, and check then says sound
 pub record Serves (c : List ℕ) : Type 0 where
-  pub set_up_done : five (play c set_up_lem).answer ≡ zeros
-  pub check_done : five (play (play c set_up_lem).cells check).answer ≡ zeros
+  pub set_up_done : five (play c set_up).answer ≡ zeros
+  pub check_done : five (play (play c set_up).cells check).answer ≡ zeros
 
 -- a call gives 1 and changes nothing that it was lent
 pub record Refuses (c : List ℕ) (k : Call) : Type 0 where
@@ -75,7 +75,7 @@ pub record Refuses (c : List ℕ) (k : Call) : Type 0 where
 
 -- a case holds: by its steps; or for all cells of its length, and for every call where that is refused
 abbrev pub Holds : Case → Type 0
-Holds (played P n ss) = sights (gives set_up_lem zeros ∷ ss) (lent_cells n) ≡ said (gives set_up_lem zeros ∷ ss)
+Holds (played P n ss) = sights (gives set_up zeros ∷ ss) (lent_cells n) ≡ said (gives set_up zeros ∷ ss)
 Holds (serves P n) = (c : List ℕ) → length c ≡ n → Serves c
 Holds (refuses P n) = (c : List ℕ) → length c ≡ n → (k : Call) → Refuses c k
 
@@ -87,10 +87,10 @@ abbrev pub deletes : (x y : ℕ) → Call
 deletes x y = delete (record { x = x; y = y })
 
 abbrev pub smallest_x_in : (x0 x1 y1 : ℕ) → Call
-smallest_x_in x0 x1 y1 = smallest_x_lem (limits x0 x1 y1)
+smallest_x_in x0 x1 y1 = smallest_x (limits x0 x1 y1)
 
 abbrev pub largest_x_in : (x0 x1 y1 : ℕ) → Call
-largest_x_in x0 x1 y1 = largest_x_lem (limits x0 x1 y1)
+largest_x_in x0 x1 y1 = largest_x (limits x0 x1 y1)
 
 abbrev pub lists_in : (x0 x1 y1 : ℕ) (out : List ℕ) → Call
 lists_in x0 x1 y1 out = list (limits x0 x1 y1) out
@@ -126,7 +126,7 @@ abbrev pub tie : List Step
 tie =
     reads (λ c. (pair_at c (root_of c)).x) 3
     ∷ reads (λ c. (pair_at c (root_of c)).y) 4
-    ∷ gives (smallest_y_lem 0 9) (numbers 0 3 4 0 1)
+    ∷ gives (smallest_y 0 9) (numbers 0 3 4 0 1)
     ∷ []
 
 -- P4 n = 1 with [1, 1]: insert [2, 2] gives 5, [1, 9] gives 4; delete [1, 2] gives 7, [3, 1] gives 6
@@ -148,8 +148,8 @@ both_ends =
     ∷ gives (smallest_x_in largest32 largest32 largest32) (numbers 0 largest32 largest32 0 2)
     ∷ gives (largest_x_in 0 0 0) (numbers 0 0 0 0 1)
     ∷ gives (largest_x_in largest32 largest32 largest32) (numbers 0 largest32 largest32 0 2)
-    ∷ gives (smallest_y_lem 0 0) (numbers 0 0 0 0 1)
-    ∷ gives (smallest_y_lem largest32 largest32) (numbers 0 largest32 largest32 0 2)
+    ∷ gives (smallest_y 0 0) (numbers 0 0 0 0 1)
+    ∷ gives (smallest_y largest32 largest32) (numbers 0 largest32 largest32 0 2)
     ∷ fills (lists_in 0 largest32 largest32 (7 ∷ 7 ∷ 7 ∷ 7 ∷ [])) (numbers 0 0 0 2 2) (0 ∷ 0 ∷ largest32 ∷ largest32 ∷ [])
     ∷ []
 

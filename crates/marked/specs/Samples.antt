@@ -3,7 +3,7 @@ use Rattle.std.specs.Prelude.{ℕ, ◌≡◌, ◌≢◌, true, false, List, [], 
 use Rattle.kinds.specs.Answer.{five}
 use Rattle.pools.specs.Cells.{free_mark}
 use Rattle.plain.specs.Plain.{limits}
-use Rattle.runs.specs.Calls.{Named, Call, set_up_lem, check, insert, delete, smallest_x_lem, largest_x_lem, smallest_y_lem, list, opens, closes, first, last, earliest, covers, meets, contains, save, lent_by, play}
+use Rattle.runs.specs.Calls.{Named, Call, set_up, check, insert, delete, smallest_x, largest_x, smallest_y, list, opens, closes, first, last, earliest, covers, meets, contains, save, lent_by, play}
 use Rattle.marked.specs.Wrong.{is_refusal, Kind, set_ups, inserts, deletes, smallest_xs, largest_xs, smallest_ys, listings, openings, closings, firsts, lasts, earliests, coverings, meetings, containings, checks, saves, kind_of, writes_of}
 
 -- a pool of one slot with nothing stored
@@ -34,12 +34,12 @@ sample_of k c d = record { call = k; served = c; otherwise = d }
 
 -- a sample of each kind
 abbrev pub sample : Kind → Sample
-sample set_ups = sample_of set_up_lem one []
+sample set_ups = sample_of set_up one []
 sample inserts = sample_of (insert (record { x = 1; y = 0 })) empty one
 sample deletes = sample_of (delete (record { x = 1; y = 0 })) one empty
-sample smallest_xs = sample_of (smallest_x_lem (limits 1 1 0)) one empty
-sample largest_xs = sample_of (largest_x_lem (limits 1 1 0)) one empty
-sample smallest_ys = sample_of (smallest_y_lem 1 1) one empty
+sample smallest_xs = sample_of (smallest_x (limits 1 1 0)) one empty
+sample largest_xs = sample_of (largest_x (limits 1 1 0)) one empty
+sample smallest_ys = sample_of (smallest_y 1 1) one empty
 sample listings = sample_of (list (limits 1 1 0) room) one empty
 sample openings = sample_of (opens only) empty one
 sample closings = sample_of (closes only) one empty

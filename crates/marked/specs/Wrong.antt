@@ -7,9 +7,10 @@ use Rattle.kinds.specs.Answer.{five}
 use Rattle.kinds.specs.Promise.{Result}
 use Rattle.stripes.specs.Stripe.{root_stripe}
 use Rattle.plain.specs.Strips.{covers_limits, last_limits, meets_limits, contains_limits}
-use Rattle.walks.specs.Walks.{smallest_x, largest_x, smallest_y, listing, room_of}
+use Rattle.walks.specs.Walks as walks
+use Rattle.walks.specs.Walks.{listing, room_of}
 use Rattle.pools.specs.Cells.{tree_of}
-use Rattle.runs.specs.Calls.{Call, set_up_lem, check, insert, delete, smallest_x_lem, largest_x_lem, smallest_y_lem, list, opens, closes, first, last, earliest, covers, meets, contains, save, lent_by, play}
+use Rattle.runs.specs.Calls.{Call, set_up, check, insert, delete, smallest_x, largest_x, smallest_y, list, opens, closes, first, last, earliest, covers, meets, contains, save, lent_by, play}
 use Rattle.runs.specs.Playing.{Run}
 
 -- what a program does at a call: it knows how many calls came before, so it may behave otherwise later; the lent cells; and what is passed in
@@ -25,19 +26,19 @@ is_refusal (Refused code) = true
 
 -- how many slots a call's walk visits, a strip call's by 01's table; a change has no walk that counts, nor have set up, check and the book
 abbrev pub visits_of : List ℕ → Call → ℕ
-visits_of c set_up_lem = 0
+visits_of c set_up = 0
 visits_of c check = 0
 visits_of c (insert p) = 0
 visits_of c (delete p) = 0
-visits_of c (smallest_x_lem q) = (smallest_x q root_stripe (tree_of c)).visits
-visits_of c (largest_x_lem q) = (largest_x q root_stripe (tree_of c)).visits
-visits_of c (smallest_y_lem x0 x1) = (smallest_y x0 x1 root_stripe (tree_of c)).visits
+visits_of c (smallest_x q) = (walks.smallest_x q root_stripe (tree_of c)).visits
+visits_of c (largest_x q) = (walks.largest_x q root_stripe (tree_of c)).visits
+visits_of c (smallest_y x0 x1) = (walks.smallest_y x0 x1 root_stripe (tree_of c)).visits
 visits_of c (list q out) = (listing q root_stripe (tree_of c) (room_of out)).visits
 visits_of c (opens n) = 0
 visits_of c (closes n) = 0
-visits_of c (first u) = (smallest_x (covers_limits u) root_stripe (tree_of c)).visits
-visits_of c (last u e) = (largest_x (last_limits u e) root_stripe (tree_of c)).visits
-visits_of c (earliest u v) = (smallest_y (u * 65536) (v * 65536 + 65535) root_stripe (tree_of c)).visits
+visits_of c (first u) = (walks.smallest_x (covers_limits u) root_stripe (tree_of c)).visits
+visits_of c (last u e) = (walks.largest_x (last_limits u e) root_stripe (tree_of c)).visits
+visits_of c (earliest u v) = (walks.smallest_y (u * 65536) (v * 65536 + 65535) root_stripe (tree_of c)).visits
 visits_of c (covers u out) = (listing (covers_limits u) root_stripe (tree_of c) (room_of out)).visits
 visits_of c (meets u v out) = (listing (meets_limits u v) root_stripe (tree_of c) (room_of out)).visits
 visits_of c (contains u v out) = (listing (contains_limits u v) root_stripe (tree_of c) (room_of out)).visits
@@ -51,13 +52,13 @@ pub data Kind : Type 0 where
 
 -- the kind of a call
 abbrev pub kind_of : Call → Kind
-kind_of set_up_lem = set_ups
+kind_of set_up = set_ups
 kind_of check = checks
 kind_of (insert p) = inserts
 kind_of (delete p) = deletes
-kind_of (smallest_x_lem q) = smallest_xs
-kind_of (largest_x_lem q) = largest_xs
-kind_of (smallest_y_lem x0 x1) = smallest_ys
+kind_of (smallest_x q) = smallest_xs
+kind_of (largest_x q) = largest_xs
+kind_of (smallest_y x0 x1) = smallest_ys
 kind_of (list q out) = listings
 kind_of (opens n) = openings
 kind_of (closes n) = closings

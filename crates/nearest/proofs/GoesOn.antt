@@ -118,7 +118,7 @@ module _ (W : Stripe → Tree Pair → Walked) (empty : (at : Stripe) → W at n
           let far_is = W (stripe_by far.at) (tree_below c far) in
           record {
             fit = (
-              S.Near-fits (all_levels - length (far ∷ cond hit [] ws)) (omega arith),
+              S.near_fits (all_levels - length (far ∷ cond hit [] ws)) (omega arith),
               (S.far_fits (all_levels - length {A = Stop} (cond hit [] ws)) (omega arith), fit_still hit ws G.fit.1),
             );
             some = N.some;

@@ -1,14 +1,15 @@
 -- The pairs by ascending x: the same pairs, each x larger than the one before; so the smallest x comes first, and then the rest. That each is
 -- larger assumes that the x differ.
-use Prim.Native.Nat.{ℕ, suc, ◌+◌, ◌≤◌}
+use Prim.Native.Nat.{ℕ, suc, ◌+◌, ◌≤◌, ◌<◌}
 use mathlib.Core.Path.{◌≡◌, refl, sym, ap, ◌∙◌}
 use mathlib.Core.Logic.{◌≢◌, ◌↔◌, ◌⊎◌, inl, inr, ⊎_elim}
 use mathlib.Core.List.Memᴰ
 use mathlib.Core.List.{List, [], ◌∷◌, map, Memᴰ}
+use mathlib.Core.Bool.{Bool, true, false, cond}
 use native.Mathlib.Omega.{arith}
-use lib.Dec.{ltb, leb}
+use lib.Dec.{leb}
 use lib.ListN.{length}
-use borrow.Author.Tests.{ltb-true, ltb-false, le-leb, leb-true, leb-false}
+use borrow.Author.Tests.{le-leb, leb-true, leb-false}
 use Rattle.kinds.specs.declared.Pair.{Pair}
 use Rattle.plain.specs.Plain.{those, Alike, Differs, Apart}
 use Rattle.kinds.proofs.Tests.{on}
@@ -16,16 +17,18 @@ use Rattle.plain.proofs.Apart.{apart_same}
 use Rattle.plain.proofs.Those.{those_mem, those_apart}
 use Rattle.pages.specs.Book.{place, by_x, Rises}
 
+place_mem_at : (p q r : Pair) (ps rest : List Pair) (b : Bool) → Memᴰ q rest ↔ ((q ≡ p) ⊎ Memᴰ q ps)
+    → Memᴰ q (cond b (p ∷ r ∷ ps) (r ∷ rest)) ↔ ((q ≡ p) ⊎ Memᴰ q (r ∷ ps))
+place_mem_at p q r ps rest true ih =
+    (λ m. ⊎_elim (λ e. inl e) (λ k. inr k) (Memᴰ.cases_cons m), λ h. ⊎_elim (λ e. Memᴰ.head e) (λ k. Memᴰ.tail k) h)
+place_mem_at p q r ps rest false ih = (
+  λ m. ⊎_elim (λ e. inr (Memᴰ.head e)) (λ k. ⊎_elim (λ e. inl e) (λ j. inr (Memᴰ.tail j)) (ih.0 k)) (Memᴰ.cases_cons m),
+  λ h. ⊎_elim (λ e. Memᴰ.tail (ih.1 (inl e))) (λ k. ⊎_elim (λ e. Memᴰ.head e) (λ j. Memᴰ.tail (ih.1 (inr j))) (Memᴰ.cases_cons k)) h,
+)
+
 place_mem : (p q : Pair) (ps : List Pair) → Memᴰ q (place p ps) ↔ ((q ≡ p) ⊎ Memᴰ q ps)
 place_mem p q [] = (λ m. ⊎_elim (λ e. inl e) (λ k. elim k [ ]) (Memᴰ.cases_cons m), λ h. ⊎_elim (λ e. Memᴰ.head e) (λ k. elim k [ ]) h)
-place_mem p q (r ∷ ps) =
-    let ih = place_mem p q ps in
-    on (ltb p.x r.x)
-    (λ t. rw t (λ m. ⊎_elim (λ e. inl e) (λ k. inr k) (Memᴰ.cases_cons m), λ h. ⊎_elim (λ e. Memᴰ.head e) (λ k. Memᴰ.tail k) h))
-    (λ f. rw f (
-      λ m. ⊎_elim (λ e. inr (Memᴰ.head e)) (λ k. ⊎_elim (λ e. inl e) (λ j. inr (Memᴰ.tail j)) (ih.0 k)) (Memᴰ.cases_cons m),
-      λ h. ⊎_elim (λ e. Memᴰ.tail (ih.1 (inl e))) (λ k. ⊎_elim (λ e. Memᴰ.head e) (λ j. Memᴰ.tail (ih.1 (inr j))) (Memᴰ.cases_cons k)) h,
-    ))
+place_mem p q (r ∷ ps) = place_mem_at p q r ps (place p ps) _ (place_mem p q ps)
 
 pub by_x_mem : (q : Pair) (ps : List Pair) → Memᴰ q (by_x ps) ↔ Memᴰ q ps
 unfolding by_x
@@ -37,16 +40,21 @@ by_x_mem q (p ∷ ps) =
       λ m. h.1 (⊎_elim (λ e. inl e) (λ k. inr (ih.1 k)) (Memᴰ.cases_cons m)),
     )
 
+place_rises_at : (p v : Pair) (ps : List Pair) (b : Bool) → (b ≡ true → p.x < v.x) → (b ≡ false → v.x < p.x) → Rises (v ∷ ps) → Rises (place p ps)
+    → Rises (cond b (p ∷ v ∷ ps) (v ∷ place p ps))
+place_rises_at p v ps true h g r ih =
+    let n = h refl in
+    ((λ q m. ⊎_elim (λ e. let z = ap (λ q. q.x) e in omega arith) (λ k. let z = r.0 q k in omega arith) (Memᴰ.cases_cons m)), r)
+place_rises_at p v ps false h g r ih =
+    let n = g refl in
+    ((λ q m. ⊎_elim (λ e. let z = ap (λ q. q.x) e in omega arith) (λ k. r.0 q k) ((place_mem p q ps).0 m)), ih)
+
 place_rises : (p : Pair) (ps : List Pair) → Rises ps → ((q : Pair) → Memᴰ q ps → p.x ≢ q.x) → Rises (place p ps)
 place_rises p [] r d = (λ q m. elim m [ ], tt)
 place_rises p (v ∷ ps) r d =
     let ih = place_rises p ps r.1 (λ q m. d q (Memᴰ.tail m)) in
-    on (ltb p.x v.x)
-    (λ t. let h = ltb-true p.x v.x t in
-    rw t ((λ q m. ⊎_elim (λ e. let z = ap (λ q. q.x) e in omega arith) (λ k. let z = r.0 q k in omega arith) (Memᴰ.cases_cons m)), r))
-    (λ f. let h = ltb-false p.x v.x f in
     let n = d v (Memᴰ.head refl) in
-    rw f ((λ q m. ⊎_elim (λ e. let z = ap (λ q. q.x) e in omega arith) (λ k. r.0 q k) ((place_mem p q ps).0 m)), ih))
+    place_rises_at p v ps _ (λ t. grind arith) (λ f. grind arith) r ih
 
 differs_at : (x : ℕ) (ps : List Pair) → Differs x (map (λ p. p.x) ps) → (q : Pair) → Memᴰ q ps → x ≢ q.x
 differs_at x [] d q m = elim m [ ]
@@ -114,9 +122,13 @@ all_at_least (p ∷ ps) = rw (le-leb 0 p.x (omega arith)) (ap (λ l. p ∷ l) (a
 pub by_x_all : (ps : List Pair) → by_x (at_least 0 ps) ≡ by_x ps
 by_x_all ps = ap by_x (all_at_least ps)
 
+length_place_at : (p q : Pair) (ps : List Pair) (b : Bool) → length (place p ps) ≡ suc (length ps) → length (cond b (p ∷ q ∷ ps) (q ∷ place p ps)) ≡ suc (suc (length ps))
+length_place_at p q ps true ih = refl
+length_place_at p q ps false ih = ap suc ih
+
 length_place : (p : Pair) (ps : List Pair) → length (place p ps) ≡ suc (length ps)
 length_place p [] = refl
-length_place p (q ∷ ps) = let ih = length_place p ps in on (ltb p.x q.x) (λ t. rw t) (λ f. rw f (ap suc ih))
+length_place p (q ∷ ps) = length_place_at p q ps _ (length_place p ps)
 
 pub length_by_x : (ps : List Pair) → length (by_x ps) ≡ length ps
 unfolding by_x

@@ -1,5 +1,6 @@
 // The calls over a pool. Each accepts any lent cells and any numbers: the check, and then the call on the checked pool.
 #![tactic(auto)]
+
 ghost use Rattle.kinds.specs.Promise.{Changes, Answers};
 ghost use Rattle.sound.specs.Promises.{set_up, check};
 

@@ -1,5 +1,6 @@
 // What a line of the script prints, a kind of line at a time. Nothing here reads a line or a pool.
 #![tactic(auto)]
+
 ghost use Rattle.std.specs.Prelude.{◌+◌, ◌*◌, ◌/◌, ◌≤◌, ◌≡◌, [], ◌∷◌, ltb, length};
 ghost use Rattle.text.specs.Text.{row};
 ghost use Rattle.text.specs.Writing.{Puts};
@@ -57,6 +58,7 @@ pub fn put_listed(output: &mut [u8], a: Answer, room: &[u32]) -> usize
 }
 
 // A line that is refused before its call: the code, and a 0 for each number that it would print.
+#[tactic(auto, unfolding(crate::specs::Refused::refused_rows))]
 pub fn put_refused(output: &mut [u8], room: &[u32], asked: Asked, code: u32) -> usize
     requires { 55 + 33 * (length room.now / 2) ≤ length output.old }
     ensures { Puts output.old 0 (refused_rows room.now code asked) output.new result }

@@ -1,5 +1,6 @@
 // What the walks over a sound pool share.
 #![tactic(auto)]
+
 ghost use Rattle.std.specs.Prelude.{◌≡◌};
 ghost use Rattle.plain.specs.Plain.{in_range};
 ghost use Rattle.questions.specs.Walking.{found_at, Some};

@@ -1,6 +1,7 @@
 // Largest x over a sound pool: a loop, while left sons wait in rows. A stop waits for a slot above whose right son has given
 // nothing so far; slot 0 is an empty stop, where the one that came last is next. The crate `leftmost` has the mirror.
 #![tactic(auto)]
+
 ghost use Rattle.std.specs.Prelude.{◌≡◌};
 ghost use Rattle.stripes.specs.Stripe.{all_levels, root_stripe};
 ghost use Rattle.plain.specs.Plain.{limits};

@@ -1,5 +1,6 @@
 // The rows of the stored book, out of a sound pool.
 #![tactic(auto)]
+
 ghost use Rattle.std.specs.Prelude.{◌≡◌, ◌≤◌, length};
 ghost use Rattle.pools.specs.Cells.{stored};
 ghost use Rattle.kinds.specs.Placed.{placed};

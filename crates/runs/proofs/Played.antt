@@ -9,13 +9,13 @@ use Rattle.pools.specs.Sound.{Sound}
 use Rattle.pools.proofs.Fresh.{fresh_sound, fresh_stored, fresh_slots}
 use Rattle.pools.proofs.Stored.{stored_apart}
 use Rattle.sound.proofs.Meaning.{check_done, set_up_done}
-use Rattle.runs.specs.Calls.{Call, set_up_lem, check, insert, delete, smallest_x_lem, largest_x_lem, smallest_y_lem, list, opens, closes, first, last, earliest, covers, meets, contains, save, promised, plainly, lent_by, play, SmallX, Each}
+use Rattle.runs.specs.Calls.{Call, set_up, check, insert, delete, smallest_x, largest_x, smallest_y, list, opens, closes, first, last, earliest, covers, meets, contains, save, promised, plainly, lent_by, play, SmallX, Each}
 use Rattle.runs.specs.Playing.{plain_by, play_plainly, play_all, plainly_all, Same, Agrees}
 use Rattle.runs.proofs.Ends.{insert_fits, delete_fits, open_fits, close_fits, smallest_x_fits, largest_x_fits, smallest_y_fits, first_fits, last_fits, earliest_fits, listing_fits, covers_fits, meets_fits, contains_fits, save_fits}
 use Rattle.runs.proofs.Fits.{Ends, fits_ends}
 
 module _ {c : List ℕ} {b : Book} (h : Same c b) where
-  set_up_ends : Ends [] (play c set_up_lem) (play_plainly b set_up_lem)
+  set_up_ends : Ends [] (play c set_up) (play_plainly b set_up)
   unfolding promised plainly plain_by
   set_up_ends =
       let p = h.sound.pool in
@@ -37,13 +37,13 @@ module _ {c : List ℕ} {b : Book} (h : Same c b) where
 -- law: one call
 pub plays : {c : List ℕ} {b : Book} → Same c b → (k : Call) → SmallX k → Ends (lent_by k) (play c k) (play_plainly b k)
 unfolding promised plainly
-plays h set_up_lem z = set_up_ends h
+plays h set_up z = set_up_ends h
 plays h check z = check_ends h
 plays h (insert p) z = fits_ends h (insert_fits h p (z p refl))
 plays h (delete p) z = fits_ends h (delete_fits h p)
-plays h (smallest_x_lem q) z = fits_ends h (smallest_x_fits h q)
-plays h (largest_x_lem q) z = fits_ends h (largest_x_fits h q)
-plays h (smallest_y_lem x0 x1) z = fits_ends h (smallest_y_fits h x0 x1)
+plays h (smallest_x q) z = fits_ends h (smallest_x_fits h q)
+plays h (largest_x q) z = fits_ends h (largest_x_fits h q)
+plays h (smallest_y x0 x1) z = fits_ends h (smallest_y_fits h x0 x1)
 plays h (list q out) z = fits_ends h (listing_fits h q out)
 plays h (opens n) z = fits_ends h (open_fits h n.start n.end n.number)
 plays h (closes n) z = fits_ends h (close_fits h n.start n.end n.number)

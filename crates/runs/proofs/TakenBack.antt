@@ -25,12 +25,11 @@ use Rattle.pools.proofs.InTree.{of_new}
 use Rattle.pools.proofs.Inserted.{inserted_sound}
 use Rattle.pools.proofs.TakenBack.{inserted_back, inserted_has, deleted_back, deleted_new, deleted_room}
 use Rattle.sound.specs.Promises as check_first
-use Rattle.sound.specs.Promises.{set_up}
 use Rattle.sound.proofs.Meaning.{set_up_stored}
 use Rattle.promises.specs.Promises.{insertion, deletion, opening, closing, smallest_x_asked, largest_x_asked, smallest_y_asked, first_to_end, last_to_end, earliest_start, listing_asked, list_covers, list_meets, list_contains, saved}
 use Rattle.plain.proofs.Limits.{strip_small}
 use Rattle.pool.proofs.Changes.{insert_gives, delete_gives, insert_made, delete_made, insert_accepted, delete_accepted, insert_refused, delete_refused, insert_stored, delete_stored, delete_gone}
-use Rattle.runs.specs.Calls.{Named, pair_of, Call, set_up_lem, check, insert, delete, smallest_x_lem, largest_x_lem, smallest_y_lem, list, opens, closes, first, last, earliest, covers, meets, contains, save, promised, play, SmallX, Each}
+use Rattle.runs.specs.Calls.{Named, pair_of, Call, set_up, check, insert, delete, smallest_x, largest_x, smallest_y, list, opens, closes, first, last, earliest, covers, meets, contains, save, promised, play, SmallX, Each}
 use Rattle.runs.specs.TakingBack.{Reversal, by, needless, anew, reverse, Ran, after, go_on, run, from, take_back, Gains, Does, Did, TakenBack}
 
 module _ (c : List ℕ) (p : Pair) where
@@ -130,17 +129,17 @@ module _ (c : List ℕ) where
   unfolding promised check_first.check
   check_same = asks (promised c check) c [] refl
 
-  smallest_x_same : (q : Limits) → (play c (smallest_x_lem q)).cells ≡ c
+  smallest_x_same : (q : Limits) → (play c (smallest_x q)).cells ≡ c
   unfolding promised smallest_x_asked
-  smallest_x_same q = asks (promised c (smallest_x_lem q)) c [] refl
+  smallest_x_same q = asks (promised c (smallest_x q)) c [] refl
 
-  largest_x_same : (q : Limits) → (play c (largest_x_lem q)).cells ≡ c
+  largest_x_same : (q : Limits) → (play c (largest_x q)).cells ≡ c
   unfolding promised largest_x_asked
-  largest_x_same q = asks (promised c (largest_x_lem q)) c [] refl
+  largest_x_same q = asks (promised c (largest_x q)) c [] refl
 
-  smallest_y_same : (x0 x1 : ℕ) → (play c (smallest_y_lem x0 x1)).cells ≡ c
+  smallest_y_same : (x0 x1 : ℕ) → (play c (smallest_y x0 x1)).cells ≡ c
   unfolding promised smallest_y_asked
-  smallest_y_same x0 x1 = asks (promised c (smallest_y_lem x0 x1)) c [] refl
+  smallest_y_same x0 x1 = asks (promised c (smallest_y x0 x1)) c [] refl
 
   list_same : (q : Limits) (out : List ℕ) → (play c (list q out)).cells ≡ c
   unfolding promised listing_asked
@@ -174,16 +173,16 @@ module _ (c : List ℕ) where
   unfolding promised saved
   save_same bytes = asks (promised c (save bytes)) c bytes refl
 
-  set_up_view : Decided (set_up c).lines c [] (set_up c).made (play c set_up_lem)
-  unfolding promised set_up
+  set_up_view : Decided (check_first.set_up c).lines c [] (check_first.set_up c).made (play c set_up)
+  unfolding promised check_first.set_up
   set_up_view = table_decided _ c [] _ (omega arith, tt)
 
-  set_up_empties : accepted (play c set_up_lem) ≡ true → stored (play c set_up_lem).cells ≡ []
-  unfolding promised set_up
+  set_up_empties : accepted (play c set_up) ≡ true → stored (play c set_up).cells ≡ []
+  unfolding promised check_first.set_up
   set_up_empties t = set_up_stored c (pool_true c (not-false _ (accepted_made set_up_view t).0.0))
 
-  set_up_refused : accepted (play c set_up_lem) ≡ false → (play c set_up_lem).cells ≡ c
-  unfolding promised set_up five numbers_of
+  set_up_refused : accepted (play c set_up) ≡ false → (play c set_up).cells ≡ c
+  unfolding promised check_first.set_up five numbers_of
   set_up_refused f = refused_same set_up_view refl f
 
 -- a strip call taken back by the other
@@ -206,13 +205,13 @@ close_back c n t =
 -- one accepted call
 back : (c : List ℕ) (k : Call) → SmallX k → accepted (play c k) ≡ true → After c (play c k) (reverse k (play c k).answer)
 unfolding promised
-back c set_up_lem b t = tt
+back c set_up b t = tt
 back c check b t = check_same c
 back c (insert p) b t = let i = insert_back c p (b p refl) t in record { cells = i.0; taken = i.1 }
 back c (delete p) b t = let i = delete_back c p t in record { cells = i.0; taken = i.1 }
-back c (smallest_x_lem q) b t = smallest_x_same c q
-back c (largest_x_lem q) b t = largest_x_same c q
-back c (smallest_y_lem x0 x1) b t = smallest_y_same c x0 x1
+back c (smallest_x q) b t = smallest_x_same c q
+back c (largest_x q) b t = largest_x_same c q
+back c (smallest_y x0 x1) b t = smallest_y_same c x0 x1
 back c (list q out) b t = list_same c q out
 back c (opens n) b t = open_back c n t
 back c (closes n) b t = close_back c n t
@@ -227,13 +226,13 @@ back c (save bytes) b t = save_same c bytes
 -- one that is not accepted leaves every cell
 stay : (c : List ℕ) (k : Call) → accepted (play c k) ≡ false → (play c k).cells ≡ c
 unfolding promised
-stay c set_up_lem f = set_up_refused c f
+stay c set_up f = set_up_refused c f
 stay c check f = check_same c
 stay c (insert p) f = insert_refused c p f
 stay c (delete p) f = delete_refused c p f
-stay c (smallest_x_lem q) f = smallest_x_same c q
-stay c (largest_x_lem q) f = largest_x_same c q
-stay c (smallest_y_lem x0 x1) f = smallest_y_same c x0 x1
+stay c (smallest_x q) f = smallest_x_same c q
+stay c (largest_x q) f = largest_x_same c q
+stay c (smallest_y x0 x1) f = smallest_y_same c x0 x1
 stay c (list q out) f = list_same c q out
 stay c (opens n) f = open_refused c n f
 stay c (closes n) f = close_refused c n f
@@ -248,13 +247,13 @@ stay c (save bytes) f = save_same c bytes
 -- what an accepted one does to the stored set
 does : (c : List ℕ) (k : Call) → SmallX k → accepted (play c k) ≡ true → Does k c (play c k).cells
 unfolding promised
-does c set_up_lem b t = set_up_empties c t
+does c set_up b t = set_up_empties c t
 does c check b t = check_same c
 does c (insert p) b t = insert_gains c p (b p refl) t
 does c (delete p) b t = delete_loses c p t
-does c (smallest_x_lem q) b t = smallest_x_same c q
-does c (largest_x_lem q) b t = largest_x_same c q
-does c (smallest_y_lem x0 x1) b t = smallest_y_same c x0 x1
+does c (smallest_x q) b t = smallest_x_same c q
+does c (largest_x q) b t = largest_x_same c q
+does c (smallest_y x0 x1) b t = smallest_y_same c x0 x1
 does c (list q out) b t = list_same c q out
 does c (opens n) b t = let f = open_good c n t in let e = open_passed c n f in rw e (insert_gains c (pair_of n) (small_x n f) (rw e at t))
 does c (closes n) b t = let f = close_good c n t in let e = close_passed c n f in rw e (delete_loses c (pair_of n) (rw e at t))
@@ -302,14 +301,14 @@ is_anew (by k) = false
 is_anew needless = false
 is_anew anew = true
 
-not_anew : (k : Call) (a : Answer) → k ≢ set_up_lem → reverse k a ≢ anew
-not_anew set_up_lem a d e = d refl
+not_anew : (k : Call) (a : Answer) → k ≢ set_up → reverse k a ≢ anew
+not_anew set_up a d e = d refl
 not_anew check a d e = clash (ap is_anew e) refl
 not_anew (insert p) a d e = clash (ap is_anew e) refl
 not_anew (delete p) a d e = clash (ap is_anew e) refl
-not_anew (smallest_x_lem q) a d e = clash (ap is_anew e) refl
-not_anew (largest_x_lem q) a d e = clash (ap is_anew e) refl
-not_anew (smallest_y_lem x0 x1) a d e = clash (ap is_anew e) refl
+not_anew (smallest_x q) a d e = clash (ap is_anew e) refl
+not_anew (largest_x q) a d e = clash (ap is_anew e) refl
+not_anew (smallest_y x0 x1) a d e = clash (ap is_anew e) refl
 not_anew (list q out) a d e = clash (ap is_anew e) refl
 not_anew (opens n) a d e = clash (ap is_anew e) refl
 not_anew (closes n) a d e = clash (ap is_anew e) refl
@@ -322,7 +321,7 @@ not_anew (contains u v out) a d e = clash (ap is_anew e) refl
 not_anew (save bytes) a d e = clash (ap is_anew e) refl
 
 -- law: where nothing is set up anew, taking back counts from the start
-pub since_from_start : (ks : List Call) (r : Ran) → Each (λ k. k ≢ set_up_lem) ks → (run ks r).since ≡ r.since
+pub since_from_start : (ks : List Call) (r : Ran) → Each (λ k. k ≢ set_up) ks → (run ks r).since ≡ r.since
 unfolding run
 since_from_start [] r n = refl
 since_from_start (k ∷ ks) r n = since_from_start ks (go_on r k) n.1 ∙ kept r k n.0
@@ -332,12 +331,12 @@ since_from_start (k ∷ ks) r n = since_from_start ks (go_on r k) n.1 ∙ kept r
     same needless w r d = refl
     same anew w r d = absurd (d refl)
 
-    kept : (r : Ran) (k : Call) → k ≢ set_up_lem → (go_on r k).since ≡ r.since
+    kept : (r : Ran) (k : Call) → k ≢ set_up → (go_on r k).since ≡ r.since
     kept r k d = on (accepted (play r.cells k))
         (λ t. rw t (same (reverse k (play r.cells k).answer) (play r.cells k) r (not_anew k _ d)))
         (λ f. rw f)
 
 -- law: then every cell is as at the start
-pub taken_back_whole : (ks : List Call) (c : List ℕ) → Each SmallX ks → Each (λ k. k ≢ set_up_lem) ks
+pub taken_back_whole : (ks : List Call) (c : List ℕ) → Each SmallX ks → Each (λ k. k ≢ set_up) ks
     → take_back (run ks (from c)).back (run ks (from c)).cells ≡ record { cells = c; all = true }
 taken_back_whole ks c b n = (taken_back ks c b).returned ∙ ap (λ d. record { cells = d; all = true }) (since_from_start ks (from c) n)

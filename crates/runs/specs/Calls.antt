@@ -8,7 +8,7 @@ use Rattle.plain.specs.Strips.{strip_pair, plain_open, plain_close, plain_first,
 use Rattle.walks.specs.Walks.{room_of}
 use Rattle.pages.specs.Book.{version_one, plain_save}
 use Rattle.sound.specs.Promises as check_first
-use Rattle.sound.specs.Promises.{set_up, behind_check}
+use Rattle.sound.specs.Promises.{behind_check}
 use Rattle.promises.specs.Promises.{insertion, deletion, smallest_x_asked, largest_x_asked, smallest_y_asked, listing_asked, opening, closing, first_to_end, last_to_end, earliest_start, list_covers, list_meets, list_contains, saved}
 
 -- a strip as a call names it
@@ -23,10 +23,10 @@ pair_of n = strip_pair n.start n.end n.number
 
 -- the calls over a pool, the strip calls, and writing the book; a listing and a list of strips are lent a slice, and the book bytes
 pub data Call : Type 0 where
-  set_up_lem check : Call
+  set_up check : Call
   insert delete : Pair → Call
-  smallest_x_lem largest_x_lem : Limits → Call
-  smallest_y_lem : (x0 x1 : ℕ) → Call
+  smallest_x largest_x : Limits → Call
+  smallest_y : (x0 x1 : ℕ) → Call
   list : Limits → (out : List ℕ) → Call
   opens closes : Named → Call
   first : (u : ℕ) → Call
@@ -38,13 +38,13 @@ pub data Call : Type 0 where
 
 -- the call over cells
 unfoldable pub promised : List ℕ → Call → Promise
-promised c set_up_lem = set_up c
+promised c set_up = check_first.set_up c
 promised c check = check_first.check c
 promised c (insert p) = behind_check c (insertion c p)
 promised c (delete p) = behind_check c (deletion c p)
-promised c (smallest_x_lem q) = behind_check c (smallest_x_asked c q)
-promised c (largest_x_lem q) = behind_check c (largest_x_asked c q)
-promised c (smallest_y_lem x0 x1) = behind_check c (smallest_y_asked c x0 x1)
+promised c (smallest_x q) = behind_check c (smallest_x_asked c q)
+promised c (largest_x q) = behind_check c (largest_x_asked c q)
+promised c (smallest_y x0 x1) = behind_check c (smallest_y_asked c x0 x1)
 promised c (list q out) = behind_check c (listing_asked c q out)
 promised c (opens n) = behind_check c (opening c n.start n.end n.number)
 promised c (closes n) = behind_check c (closing c n.start n.end n.number)
@@ -58,13 +58,13 @@ promised c (save bytes) = behind_check c (saved c bytes)
 
 -- the same call over a plain list
 unfoldable pub plainly : Call → Book → Plainly
-plainly set_up_lem b = plain_set_up
+plainly set_up b = plain_set_up
 plainly check b = plain_check b
 plainly (insert p) b = plain_insert p b
 plainly (delete p) b = plain_delete p b
-plainly (smallest_x_lem q) b = plain_smallest_x q b
-plainly (largest_x_lem q) b = plain_largest_x q b
-plainly (smallest_y_lem x0 x1) b = plain_smallest_y x0 x1 b
+plainly (smallest_x q) b = plain_smallest_x q b
+plainly (largest_x q) b = plain_largest_x q b
+plainly (smallest_y x0 x1) b = plain_smallest_y x0 x1 b
 plainly (list q out) b = plain_listing q (room_of out) b
 plainly (opens n) b = plain_open n.start n.end n.number b
 plainly (closes n) b = plain_close n.start n.end n.number b
@@ -78,13 +78,13 @@ plainly (save bytes) b = plain_save version_one bytes b
 
 -- the slice that a call is lent besides the pool, as it was passed; none: no cells
 abbrev pub lent_by : Call → List ℕ
-lent_by set_up_lem = []
+lent_by set_up = []
 lent_by check = []
 lent_by (insert p) = []
 lent_by (delete p) = []
-lent_by (smallest_x_lem q) = []
-lent_by (largest_x_lem q) = []
-lent_by (smallest_y_lem x0 x1) = []
+lent_by (smallest_x q) = []
+lent_by (largest_x q) = []
+lent_by (smallest_y x0 x1) = []
 lent_by (list q out) = out
 lent_by (opens n) = []
 lent_by (closes n) = []

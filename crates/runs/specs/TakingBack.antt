@@ -5,7 +5,7 @@ use Rattle.kinds.specs.declared.Answer.{Answer}
 use Rattle.kinds.specs.declared.Pair.{Pair}
 use Rattle.kinds.specs.Promise.{Result, accepted}
 use Rattle.pools.specs.Cells.{stored}
-use Rattle.runs.specs.Calls.{pair_of, Call, set_up_lem, check, insert, delete, smallest_x_lem, largest_x_lem, smallest_y_lem, list, opens, closes, first, last, earliest, covers, meets, contains, save, play}
+use Rattle.runs.specs.Calls.{pair_of, Call, set_up, check, insert, delete, smallest_x, largest_x, smallest_y, list, opens, closes, first, last, earliest, covers, meets, contains, save, play}
 
 -- how an accepted call is taken back: by a call; not at all, since it changes nothing; or never, since taking back counts from it
 pub data Reversal : Type 0 where
@@ -15,13 +15,13 @@ pub data Reversal : Type 0 where
 
 -- what takes an accepted call back, given what it answered: an insert is taken back by delete, an opening by closing, and the other way round
 abbrev pub reverse : Call → Answer → Reversal
-reverse set_up_lem a = anew
+reverse set_up a = anew
 reverse check a = needless
 reverse (insert p) a = by (delete p)
 reverse (delete p) a = by (insert p)
-reverse (smallest_x_lem q) a = needless
-reverse (largest_x_lem q) a = needless
-reverse (smallest_y_lem x0 x1) a = needless
+reverse (smallest_x q) a = needless
+reverse (largest_x q) a = needless
+reverse (smallest_y x0 x1) a = needless
 reverse (list q out) a = needless
 reverse (opens n) a = by (closes n)
 reverse (closes n) a = by (opens n)
@@ -78,13 +78,13 @@ pub record Gains (p : Pair) (c d : List ℕ) : Type 0 where
 
 -- what an accepted call does to the stored set, from the cells c to the cells d; a question leaves every cell
 abbrev pub Does : Call → List ℕ → List ℕ → Type 0
-Does set_up_lem c d = stored d ≡ []
+Does set_up c d = stored d ≡ []
 Does check c d = d ≡ c
 Does (insert p) c d = Gains p c d
 Does (delete p) c d = Gains p d c
-Does (smallest_x_lem q) c d = d ≡ c
-Does (largest_x_lem q) c d = d ≡ c
-Does (smallest_y_lem x0 x1) c d = d ≡ c
+Does (smallest_x q) c d = d ≡ c
+Does (largest_x q) c d = d ≡ c
+Does (smallest_y x0 x1) c d = d ≡ c
 Does (list q out) c d = d ≡ c
 Does (opens n) c d = Gains (pair_of n) c d
 Does (closes n) c d = Gains (pair_of n) d c

@@ -1,5 +1,6 @@
 // A line of the script, over any cells: it is read, the pool is checked, and what it asks is done and answered. Nothing here reads or writes a file.
 #![tactic(auto)]
+
 ghost use Rattle.std.specs.Prelude.{◌≡◌};
 ghost use Rattle.lines.specs.Script.{line_answered, LineKept};
 ghost use Rattle.lines.specs.Writing.{refusal_of};

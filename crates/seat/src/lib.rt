@@ -1,5 +1,6 @@
 // What an insertion does at a slot: two pairs meet there, or the slot is taken from the free ones.
 #![tactic(auto)]
+
 ghost use Rattle.std.specs.Prelude.{◌≡◌};
 ghost use Rattle.pools.specs.Links.{Fits};
 ghost use Rattle.seat.specs.Seat.{Settled, Room, free_taken};

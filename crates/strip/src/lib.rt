@@ -1,5 +1,6 @@
 // A strip's numbers: what refuses them, the pair that they make, and the limits within which the strips stand that a question asks for.
 #![tactic(auto)]
+
 ghost use Rattle.std.specs.Prelude.{◌≡◌, ◌*◌, ◌≤◌};
 ghost use Rattle.kinds.specs.Promise.{first_code};
 ghost use Rattle.plain.specs.Plain.{limits};
@@ -23,6 +24,7 @@ fn over(n: u32) -> bool
 }
 
 // What refuses a strip's numbers, or 0.
+#[tactic(auto, unfolding(kinds::specs::Promise::first_code))]
 pub fn strip_code(start: u32, end: u32, number: u32) -> u32
     ensures { result ≡ first_code (strip_lines start end number) }
 {
@@ -33,6 +35,7 @@ pub fn strip_code(start: u32, end: u32, number: u32) -> u32
 }
 
 // What refuses an asked slot, or 0.
+#[tactic(auto, unfolding(kinds::specs::Promise::first_code))]
 pub fn slot_code(u: u32) -> u32
     ensures { result ≡ first_code (slot_lines u) }
 {
@@ -43,6 +46,7 @@ pub fn slot_code(u: u32) -> u32
 }
 
 // What refuses asked slots from u to v, or 0.
+#[tactic(auto, unfolding(kinds::specs::Promise::first_code))]
 pub fn slots_code(u: u32, v: u32) -> u32
     ensures { result ≡ first_code (slots_lines u v) }
 {

@@ -1,5 +1,6 @@
 // The strip calls. Each accepts any lent cells and any numbers: the check, and then the call on the checked pool.
 #![tactic(auto)]
+
 mod asking;
 mod changing;
 mod list;

@@ -1,6 +1,7 @@
 // The script program: lines from standard input, answers to standard output, in large pieces.
 // It writes its pool by its own calls alone, so that it is sound from set up on, and no line checks it.
 #![tactic(auto)]
+
 ghost use Rattle.std.specs.Prelude.{◌≤◌, length};
 ghost use Rattle.pools.specs.Sound.{Sound};
 

@@ -1,5 +1,6 @@
 // Numbers as decimal bytes, one after the other into lent bytes; each function answers the place behind what it wrote.
 #![tactic(auto)]
+
 ghost use Rattle.std.specs.Prelude.{◌+◌, ◌*◌, ◌/◌, ◌≤◌, min, ◌≡◌, length};
 ghost use Rattle.text.specs.Text.{front, glyph, item, match_rows};
 ghost use Rattle.text.specs.Writing.{Puts, strip_items};

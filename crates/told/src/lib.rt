@@ -1,5 +1,6 @@
 // An answer as numbers, for a caller in C.
 #![tactic(auto)]
+
 ghost use Rattle.std.specs.Prelude.{◌≡◌};
 ghost use Rattle.kinds.specs.Answer.{ended};
 ghost use Rattle.told.specs.Told.{code_of, Numbered};

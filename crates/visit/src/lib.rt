@@ -1,5 +1,6 @@
 // A visit of an x walk to a slot: the closer of its own pair and what was found so far, the stops that still wait, and the sons that are asked.
 #![tactic(auto)]
+
 ghost use Rattle.std.specs.Prelude.{◌≡◌, cond, ◌≤◌};
 ghost use Rattle.pools.specs.Links.{Fits};
 ghost use Rattle.plain.specs.Plain.{smaller, larger};

@@ -1,5 +1,6 @@
 // The way down to x, from the root: at each slot a bit of x says the side.
 #![tactic(auto)]
+
 ghost use Rattle.pools.specs.Sound.{Sound};
 ghost use Rattle.way.specs.Way.{WayEnds};
 

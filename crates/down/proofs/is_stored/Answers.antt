@@ -1,0 +1,13 @@
+-- A slot is met exactly where x is stored. It assumes a sound pool.
+use Rattle.way.proofs.Ways.{place_there, stored_met}
+use borrow.Author.Rules.{rules}
+use Rattle.down.proofs.is_stored.Goals as goal
+
+pub offset_bounds-pool-cell : goal.offset_bounds-pool-cell
+offset_bounds-pool-cell c = let inside = (place_there c.requires c.find-end.ensures.way).inside in search rules
+
+pub bounds-pool-cell : goal.bounds-pool-cell
+bounds-pool-cell c = (place_there c.requires c.find-end.ensures.way).inside
+
+pub returns : goal.returns
+returns c = stored_met c.requires c.find-end.ensures

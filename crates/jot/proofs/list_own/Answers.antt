@@ -1,0 +1,19 @@
+-- Each way out is one law of Own.antt: the pair is out of range, finds no room, or is written. It assumes a count within the room.
+use native.Mathlib.Omega.{arith}
+use lib.ListN.{length-set}
+use borrow.Author.Tests.{not-true, not-false}
+use Rattle.jot.proofs.Own.{own_out, own_counted, own_put}
+use borrow.Author.Rules.{rules}
+use Rattle.jot.proofs.list_own.Goals as goal
+
+pub returns-then-not-in_range : goal.returns-then-not-in_range
+returns-then-not-in_range c =
+    own_out _ _ c.args.x0 c.args.x1 c.args.p c.in_range.ensures c.if-not-in_range.true
+
+pub returns-then-room_of-count : goal.returns-then-room_of-count
+returns-then-room_of-count c =
+    own_counted _ _ c.args.x0 c.args.x1 c.args.p c.in_range.ensures c.if-not-in_range.false _ c.room_of.ensures c.if-room_of-count.true
+
+pub returns : goal.returns
+returns c =
+    own_put _ _ c.args.x0 c.args.x1 c.args.p c.in_range.ensures c.if-not-in_range.false _ c.room_of.ensures c.if-room_of-count.false

@@ -1,0 +1,23 @@
+-- The code of the slots refuses; else the walk lists, with the limits of meets. It assumes a sound pool.
+use mathlib.Core.Path.{sym, ◌∙◌}
+use Rattle.plain.specs.Books.{plain_listing}
+use Rattle.plain.specs.Strips.{plain_meets}
+use Rattle.strip.proofs.Fitting.{slots_small}
+use Rattle.promises.specs.Promises.{listing_asked, list_meets}
+use Rattle.promises.proofs.Ways.{slots_refused, slots_pass}
+use borrow.Author.Rules.{rules}
+use Rattle.lend.proofs.list.list_meets.Goals as goal
+
+pub returns-then-code-ne-DONE : goal.returns-then-code-ne-DONE
+unfolding list_meets plain_meets
+returns-then-code-ne-DONE c =
+    slots_refused c.args.u c.args.v c.slots_code-code.ensures c.if-code-ne-DONE.true c.refused.ensures
+
+pub meets-requires : goal.meets-requires
+meets-requires c =
+    (slots_small c.args.u c.args.v (sym c.slots_code-code.ensures ∙ c.if-code-ne-DONE.false)).0
+
+pub returns : goal.returns
+unfolding list_meets plain_meets listing_asked plain_listing
+returns c =
+    slots_pass c.args.u c.args.v c.slots_code-code.ensures c.if-code-ne-DONE.false (rw c.meets.ensures at c.list.ensures)

@@ -1,0 +1,93 @@
+-- The invariant: what is still to be walked, after what was found so far, gives the answer. It assumes a sound pool; each turn takes away a
+-- slot that is still to be walked, or a stop that waits.
+use Prim.Native.Nat.{◌<◌}
+use mathlib.Core.Path.{refl}
+use native.Mathlib.Omega.{arith}
+use borrow.Author.Rules.{rules}
+use Rattle.pools.specs.Cells.{root_of, tree_at}
+use Rattle.plain.specs.Plain.{limits, larger}
+use Rattle.stripes.specs.Stripe.{low_levels, all_levels, root_stripe}
+use Rattle.walks.specs.Walks.{largest_x}
+use Rattle.questions.proofs.Top.{header}
+use Rattle.nearest.specs.Waiting.{InRows}
+use Rattle.nearest.proofs.InRows.{to_walk, here_fits, middle_fits, at_end, pop, pop_less, fits, one_more, row_too_high, high_less, to_far, to_near, room_left, push, far_less, near_less, push_less, start}
+use Rattle.nearest.proofs.Sides.{largest_x_walk, largest_sons}
+use Rattle.rightmost.proofs.largest_x.Goals as goal
+
+pub loop-slot-init : goal.loop-slot-init
+loop-slot-init c =
+    start (largest_x _) larger _ c.requires _ _ _ refl refl refl _ c.root-slot.ensures _ c.root-at.ensures
+
+pub loop-slot-smaller-then-slot-eq0 : goal.loop-slot-smaller-then-slot-eq0
+loop-slot-smaller-then-slot-eq0 c =
+    pop_less c.loop-slot.invariant c.if-wait-eq0.false
+
+pub loop-slot-preserved-then-slot-eq0 : goal.loop-slot-preserved-then-slot-eq0
+loop-slot-preserved-then-slot-eq0 c =
+    pop c.loop-slot.invariant (largest_x_walk _) c.if-slot-eq0.true c.if-wait-eq0.false
+
+pub overflow_add-visits : goal.overflow_add-visits
+overflow_add-visits c = omega (arith, one_more c.loop-slot.invariant c.if-slot-eq0.false)
+
+pub pair-p-requires : goal.pair-p-requires
+pair-p-requires c =
+    fits c.loop-slot.invariant c.if-slot-eq0.false
+
+pub loop-slot-smaller-then-y1-p : goal.loop-slot-smaller-then-y1-p
+loop-slot-smaller-then-y1-p c =
+    high_less c.loop-slot.invariant c.if-slot-eq0.false
+
+pub loop-slot-preserved-then-y1-p : goal.loop-slot-preserved-then-y1-p
+loop-slot-preserved-then-y1-p c =
+    row_too_high c.loop-slot.invariant (largest_x_walk _) c.if-slot-eq0.false (largest_sons _ _ _ _ _ (here_fits c.loop-slot.invariant) c.if-slot-eq0.false _ _ _ _ refl refl refl refl) c.pair-p.ensures c.if-y1-p.true
+
+pub larger_of-best-requires : goal.larger_of-best-requires
+larger_of-best-requires c = (omega (arith, c.if-slot-eq0.false), fits c.loop-slot.invariant c.if-slot-eq0.false, c.loop-slot.invariant.goes_on.some)
+
+pub left_asked-left-requires : goal.left_asked-left-requires
+left_asked-left-requires c =
+    (fits c.loop-slot.invariant c.if-slot-eq0.false, middle_fits c.loop-slot.invariant)
+
+pub right_asked-right-requires : goal.right_asked-right-requires
+right_asked-right-requires c =
+    (fits c.loop-slot.invariant c.if-slot-eq0.false, middle_fits c.loop-slot.invariant)
+
+pub loop-slot-smaller-then-right-eq0 : goal.loop-slot-smaller-then-right-eq0
+loop-slot-smaller-then-right-eq0 c =
+    far_less c.loop-slot.invariant (largest_x_walk _) c.if-slot-eq0.false (largest_sons _ _ _ _ _ (here_fits c.loop-slot.invariant) c.if-slot-eq0.false _ _ _ _ c.left_asked-left.ensures c.right_asked-right.ensures c.left-at.ensures refl) c.pair-p.ensures c.if-y1-p.false c.in_range-hit.ensures c.larger_of-best.ensures c.still-wait.ensures
+
+pub loop-slot-preserved-then-right-eq0 : goal.loop-slot-preserved-then-right-eq0
+loop-slot-preserved-then-right-eq0 c =
+    to_far c.loop-slot.invariant (largest_x_walk _) c.if-slot-eq0.false (largest_sons _ _ _ _ _ (here_fits c.loop-slot.invariant) c.if-slot-eq0.false _ _ _ _ c.left_asked-left.ensures c.right_asked-right.ensures c.left-at.ensures refl) c.pair-p.ensures c.if-y1-p.false c.in_range-hit.ensures c.larger_of-best.ensures c.still-wait.ensures c.if-right-eq0.true
+
+pub right-near-requires : goal.right-near-requires
+right-near-requires c = middle_fits c.loop-slot.invariant
+
+pub bounds-slots-wait-then-left-ne0 : goal.bounds-slots-wait-then-left-ne0
+bounds-slots-wait-then-left-ne0 c = let room-here : c.still-wait.result < low_levels = room_left c.loop-slot.invariant (largest_x_walk _) c.if-slot-eq0.false (largest_sons _ _ _ _ _ (here_fits c.loop-slot.invariant) c.if-slot-eq0.false _ _ _ _ c.left_asked-left.ensures c.right_asked-right.ensures c.left-far.ensures c.right-near.ensures) c.pair-p.ensures c.if-y1-p.false c.in_range-hit.ensures c.larger_of-best.ensures c.still-wait.ensures c.if-right-eq0.false in omega (arith, room-here)
+
+pub bounds-lowers-wait-then-left-ne0 : goal.bounds-lowers-wait-then-left-ne0
+bounds-lowers-wait-then-left-ne0 c = let room-here : c.still-wait.result < low_levels = room_left c.loop-slot.invariant (largest_x_walk _) c.if-slot-eq0.false (largest_sons _ _ _ _ _ (here_fits c.loop-slot.invariant) c.if-slot-eq0.false _ _ _ _ c.left_asked-left.ensures c.right_asked-right.ensures c.left-far.ensures c.right-near.ensures) c.pair-p.ensures c.if-y1-p.false c.in_range-hit.ensures c.larger_of-best.ensures c.still-wait.ensures c.if-right-eq0.false in omega (arith, room-here)
+
+pub bounds-halves-wait-then-left-ne0 : goal.bounds-halves-wait-then-left-ne0
+bounds-halves-wait-then-left-ne0 c = let room-here : c.still-wait.result < low_levels = room_left c.loop-slot.invariant (largest_x_walk _) c.if-slot-eq0.false (largest_sons _ _ _ _ _ (here_fits c.loop-slot.invariant) c.if-slot-eq0.false _ _ _ _ c.left_asked-left.ensures c.right_asked-right.ensures c.left-far.ensures c.right-near.ensures) c.pair-p.ensures c.if-y1-p.false c.in_range-hit.ensures c.larger_of-best.ensures c.still-wait.ensures c.if-right-eq0.false in omega (arith, room-here)
+
+pub loop-slot-smaller-then-left-ne0 : goal.loop-slot-smaller-then-left-ne0
+loop-slot-smaller-then-left-ne0 c =
+    push_less c.loop-slot.invariant (largest_x_walk _) c.if-slot-eq0.false (largest_sons _ _ _ _ _ (here_fits c.loop-slot.invariant) c.if-slot-eq0.false _ _ _ _ c.left_asked-left.ensures c.right_asked-right.ensures c.left-far.ensures c.right-near.ensures) c.pair-p.ensures c.if-y1-p.false c.in_range-hit.ensures c.larger_of-best.ensures c.still-wait.ensures c.if-right-eq0.false
+
+pub loop-slot-preserved-then-left-ne0 : goal.loop-slot-preserved-then-left-ne0
+loop-slot-preserved-then-left-ne0 c =
+    push c.loop-slot.invariant (largest_x_walk _) c.if-slot-eq0.false (largest_sons _ _ _ _ _ (here_fits c.loop-slot.invariant) c.if-slot-eq0.false _ _ _ _ c.left_asked-left.ensures c.right_asked-right.ensures c.left-far.ensures c.right-near.ensures) c.pair-p.ensures c.if-y1-p.false c.in_range-hit.ensures c.larger_of-best.ensures c.still-wait.ensures c.if-right-eq0.false
+
+pub loop-slot-smaller : goal.loop-slot-smaller
+loop-slot-smaller c =
+    near_less c.loop-slot.invariant (largest_x_walk _) c.if-slot-eq0.false (largest_sons _ _ _ _ _ (here_fits c.loop-slot.invariant) c.if-slot-eq0.false _ _ _ _ c.left_asked-left.ensures c.right_asked-right.ensures refl c.right-near.ensures) c.pair-p.ensures c.if-y1-p.false c.in_range-hit.ensures c.larger_of-best.ensures c.still-wait.ensures
+
+pub loop-slot-preserved : goal.loop-slot-preserved
+loop-slot-preserved c =
+    to_near c.loop-slot.invariant (largest_x_walk _) c.if-slot-eq0.false (largest_sons _ _ _ _ _ (here_fits c.loop-slot.invariant) c.if-slot-eq0.false _ _ _ _ c.left_asked-left.ensures c.right_asked-right.ensures refl c.right-near.ensures) c.pair-p.ensures c.if-y1-p.false c.in_range-hit.ensures c.larger_of-best.ensures c.still-wait.ensures c.if-left-ne0.false
+
+pub returns : goal.returns
+returns c =
+    at_end c.loop-slot.invariant (largest_x_walk _) c.if-slot-eq0.true c.if-wait-eq0.true c.found_at.ensures
