@@ -1,0 +1,16 @@
+-- The verdict on the pool decides. Nothing is assumed.
+use Rattle.sound.proofs.Lines.{verdict_sound, entry_passed, entry_refused}
+use Rattle.promises.specs.Promises.{smallest_x_asked}
+use borrow.Author.Rules.{rules}
+use Rattle.pool.proofs.asking.smallest_x.Goals as goal
+
+pub returns-then-verdict-ne-DONE : goal.returns-then-verdict-ne-DONE
+returns-then-verdict-ne-DONE c =
+    entry_refused _ c.verdict-verdict.ensures (smallest_x_asked _ _) c.if-verdict-ne-DONE.true c.refused.ensures
+
+pub smallest_x-requires : goal.smallest_x-requires
+smallest_x-requires c = verdict_sound _ c.verdict-verdict.ensures c.if-verdict-ne-DONE.false
+
+pub returns : goal.returns
+returns c =
+    entry_passed _ c.verdict-verdict.ensures c.if-verdict-ne-DONE.false c.smallest_x.ensures

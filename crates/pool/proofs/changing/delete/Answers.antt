@@ -1,0 +1,6 @@
+-- The code as an answer. Nothing is assumed.
+use borrow.Author.Rules.{rules}
+use Rattle.pool.proofs.changing.delete.Goals as goal
+
+pub returns : goal.returns
+returns c = rw c.ended.ensures c.delete_code.ensures
