@@ -1,0 +1,17 @@
+-- The verdict on the pool decides. Nothing is assumed.
+use Rattle.sound.proofs.Lines.{verdict_sound, entry_passed, entry_refused}
+use Rattle.promises.specs.Promises.{saved}
+use borrow.Author.Rules.{rules}
+use Rattle.book.proofs.save.Goals as goal
+
+pub returns-then-verdict-ne-DONE : goal.returns-then-verdict-ne-DONE
+returns-then-verdict-ne-DONE c =
+    entry_refused _ c.verdict-verdict.ensures (saved _ _) c.if-verdict-ne-DONE.true c.refused.ensures
+
+pub save-requires : goal.save-requires
+save-requires c =
+    verdict_sound _ c.verdict-verdict.ensures c.if-verdict-ne-DONE.false
+
+pub returns : goal.returns
+returns c =
+    entry_passed _ c.verdict-verdict.ensures c.if-verdict-ne-DONE.false c.save.ensures

@@ -1,0 +1,6 @@
+-- The code as an answer. Nothing is assumed.
+use borrow.Author.Rules.{rules}
+use Rattle.strips.proofs.changing.close.Goals as goal
+
+pub returns : goal.returns
+returns c = rw c.ended.ensures c.close_code.ensures
