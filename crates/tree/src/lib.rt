@@ -57,6 +57,7 @@ fn slot_fine(pool: &[u32], slot: u32, at: Stripe) -> bool
 }
 
 // A son by its own tests, below a slot with the pair p and with so many levels left.
+#[tactic(auto, using(crate::specs::Checked::empty, crate::specs::Checked::leaf, crate::specs::Checked::branch, crate::proofs::Sons::too_deep, crate::proofs::Sons::faulty_slot, crate::proofs::Sons::faulty_order, crate::proofs::Sons::fine_fits))]
 fn look_at_son(pool: &[u32], levels: u32, p: Pair, son: u32, at: Stripe) -> Son
     ensures { SonIs pool.now levels p son (stripe_of at) result }
 {
@@ -82,6 +83,7 @@ fn look_at_son(pool: &[u32], levels: u32, p: Pair, son: u32, at: Stripe) -> Son
 }
 
 // From a slot down whose own tests have passed, with so many levels below it.
+#[tactic(auto, using(stripes::proofs::Stripes::low_left, stripes::proofs::Stripes::low_right, crate::proofs::Counting::left_faulty, crate::proofs::Counting::right_faulty, crate::proofs::Counting::again_faulty, crate::proofs::Counting::both_counted, crate::proofs::Counting::few_counted, crate::proofs::Counting::may_search))]
 #[cycle(check_slot_check_son)]
 fn check_slot(pool: &[u32], levels: u32, slot: u32, at: Stripe) -> Checked
     requires { Fits pool.now slot × (levels ≤ low_levels) × Low (stripe_of at) }
@@ -103,6 +105,7 @@ fn check_slot(pool: &[u32], levels: u32, slot: u32, at: Stripe) -> Checked
 }
 
 // From a son's place down, with so many levels left.
+#[tactic(auto, using(crate::proofs::Counting::son_empty, crate::proofs::Counting::son_leaf, crate::proofs::Counting::son_bad, crate::proofs::Counting::son_fork, crate::proofs::Counting::fork_there))]
 #[cycle(check_slot_check_son)]
 fn check_son(pool: &[u32], levels: u32, p: Pair, son: u32, at: Stripe) -> Checked
     requires { (levels ≤ low_levels) × Low (stripe_of at) }
@@ -118,6 +121,7 @@ fn check_son(pool: &[u32], levels: u32, p: Pair, son: u32, at: Stripe) -> Checke
 }
 
 // From the root down: it has no father.
+#[tactic(auto, using(crate::proofs::Sons::fine_fits, stripes::proofs::Stripes::low_root, pools::proofs::Leads::tree_none, pools::proofs::Leads::tree_fork), unfolding(crate::specs::Checked::from_root, crate::specs::Checked::from_slot, pools::specs::Test::root_fine))]
 pub fn check_root(pool: &[u32]) -> Checked
     requires { Pool pool.now }
     ensures { result ≡ from_root pool.now }
