@@ -1,7 +1,7 @@
 // Set up and check: the two calls that accept any cells at all.
 #![tactic(auto)]
 
-ghost use Rattle.std.specs.Prelude.{◌≡◌, ◌-◌};
+ghost use Rattle.std.specs.Prelude.{◌≡◌};
 ghost use Rattle.kinds.specs.Promise.{Changes, Answers};
 ghost use Rattle.pools.specs.Sound.{Pool};
 ghost use Rattle.pools.specs.Test.{is_sound};
@@ -23,6 +23,7 @@ pub fn set_up(pool: &mut [u32]) -> Answer
 }
 
 // The mark, the tree and the chain of a pool whose length is right: 0 where it is sound, or 2.
+#[tactic(auto, using(pools::proofs::Decided::true_pool), unfolding(pools::specs::Test::is_sound, pools::specs::Test::rest_fine, tree::specs::Checked::from_root, chain::specs::Judged::rest_verdict))]
 fn soundness(pool: &[u32]) -> u32
     requires { Pool pool.now }
     ensures { result ≡ verdict (is_sound pool.now) }
@@ -38,6 +39,7 @@ fn soundness(pool: &[u32]) -> u32
 }
 
 // The check, for the calls that go on with a sound pool: 0, or the code of what is wrong.
+#[tactic(auto, using(pools::proofs::Decided::pool_true), unfolding(crate::specs::Promises::verdict_of, kinds::specs::Promise::first_code))]
 pub fn verdict(pool: &[u32]) -> u32
     ensures { result ≡ verdict_of pool.now }
 {
