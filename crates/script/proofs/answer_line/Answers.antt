@@ -1,5 +1,6 @@
 -- Too few bytes, a refusal before the call, or what is done and printed. Nothing is assumed.
 use mathlib.Core.Path.{sym, ◌∙◌}
+use native.Mathlib.Omega.{arith}
 use borrow.Author.Tests.{ltb-false}
 use Rattle.lines.proofs.Answering.{short_output, line_done, refused_prints, refusal_sound}
 use borrow.Author.Rules.{rules}
@@ -15,7 +16,7 @@ returns-then-code-ne-DONE c =
 
 pub perform-end-requires : goal.perform-end-requires
 perform-end-requires c =
-    (refusal_sound _ _ c.refusal-code.ensures c.if-code-ne-DONE.false, ltb-false _ _ (sym c.too_short.ensures ∙ c.if-too_short.false))
+    (refusal_sound _ _ c.refusal-code.ensures (omega arith), ltb-false _ _ (sym c.too_short.ensures ∙ c.if-too_short.false))
 
 pub returns : goal.returns
 returns c =
