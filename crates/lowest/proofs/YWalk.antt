@@ -36,16 +36,19 @@ module _ (c : List ℕ) (l r : ℕ) where
   pub lower_first : r ≡ 0 → Some c l → Lower c l r l
   lower_first e o = record { found = rw (found_none c r e) (sym (closest_nothing lower_y (found_at c l))); some = o }
 
-  module _ (hl : l ≡ 0 → ⊥) (hr : r ≡ 0 → ⊥) (p q : Pair) (ep : p ≡ pair_at c l) (eq : q ≡ pair_at c r) where
-    pub second_lower : q.y < p.y → Some c r → Lower c l r r
-    second_lower h o =
-        let h' : (pair_at c r).y < (pair_at c l).y = rw (ep, eq) at h in
-        record { found = rw (found_some c l hl, found_some c r hr, lt-ltb (pair_at c r).y (pair_at c l).y h'); some = o }
+  module _ (hl : l ≡ 0 → ⊥) (hr : r ≡ 0 → ⊥) where
+    pub second_wins : (pair_at c r).y < (pair_at c l).y → Some c r → Lower c l r r
+    second_wins h o = record { found = rw (found_some c l hl, found_some c r hr, lt-ltb (pair_at c r).y (pair_at c l).y h); some = o }
 
-    pub first_stays : p.y ≤ q.y → Some c l → Lower c l r l
-    first_stays h o =
-        let h' : (pair_at c l).y ≤ (pair_at c r).y = rw (ep, eq) at h in
-        record { found = rw (found_some c l hl, found_some c r hr, le-ltb (pair_at c r).y (pair_at c l).y h'); some = o }
+    pub first_wins : (pair_at c l).y ≤ (pair_at c r).y → Some c l → Lower c l r l
+    first_wins h o = record { found = rw (found_some c l hl, found_some c r hr, le-ltb (pair_at c r).y (pair_at c l).y h); some = o }
+
+    module _ (p q : Pair) (ep : p ≡ pair_at c l) (eq : q ≡ pair_at c r) where
+      pub second_lower : q.y < p.y → Some c r → Lower c l r r
+      second_lower h = second_wins (rw (ep, eq) at h)
+
+      pub first_stays : p.y ≤ q.y → Some c l → Lower c l r l
+      first_stays h = first_wins (rw (ep, eq) at h)
 
 -- the answers of both sons, one after the other
 joined : (c : List ℕ) (v : ℕ) (a b : Walked) (l r n vl vr : ℕ) → Made c v a l vl → Made c vl b r vr → Lower c l r n → Made c v (lower_of a b) n vr

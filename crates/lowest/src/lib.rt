@@ -25,6 +25,7 @@ fn asks(son: u32, go: bool) -> bool
 }
 
 // Of what the left and the right son found, the one with the smaller y; left on equal y.
+#[tactic(auto, using(crate::proofs::YWalk::lower_second, crate::proofs::YWalk::lower_first, crate::proofs::YWalk::second_wins, crate::proofs::YWalk::first_wins))]
 fn lower(pool: &[u32], l: u32, r: u32) -> u32
     requires { Some pool.now l × Some pool.now r }
     ensures { Lower pool.now l r result }

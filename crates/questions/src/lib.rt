@@ -8,6 +8,7 @@ ghost use Rattle.questions.specs.Walking.{found_at, Some};
 use kinds::{Finding, Pair};
 
 // What a walk has found, read from its slot.
+#[tactic(auto, unfolding(crate::specs::Walking::found_at))]
 pub fn found_at(pool: &[u32], slot: u32) -> Finding
     requires { Some pool.now slot }
     ensures { result ≡ found_at pool.now slot }

@@ -2,16 +2,16 @@
 -- `Taken` are the graphs of `fill` and `take_out`; every law is an induction over them.
 use Prim.Native.Nat.{ℕ, ◌≤◌, ◌<◌}
 use mathlib.Core.Path.{◌≡◌, refl, sym, ap, subst}
+use mathlib.Core.Bool.{Bool, true, false, cond}
 use mathlib.Core.Logic.{◌≢◌, ◌↔◌, ◌⊎◌, inl, inr, ⊎_elim}
 use native.Mathlib.Omega.{arith}
 use borrow.Author.Tests.{eq-eqb, ne_eqb, lt-ltb, le-ltb}
 use Rattle.kinds.specs.declared.Pair.{Pair}
-use Rattle.kinds.specs.Pairs.{Beats, beats}
+use Rattle.kinds.specs.Pairs.{Beats}
 use Rattle.stripes.specs.Stripe.{Stripe, middle, left_part, right_part}
 use Rattle.trees.specs.Tree.{Tree, none, fork, All, Mem, here, in_left, in_right, Tops, free, over, Under, Well}
 use Rattle.trees.specs.Standing.{New}
-use Rattle.trees.specs.Changes.{fill, take_out}
-use Rattle.kinds.proofs.Tests.{on}
+use Rattle.trees.specs.Changes.{Cut, left_son, right_son, move_up, fill, take_out}
 use Rattle.kinds.proofs.Order.{beats_true, true_beats, false_beats, beats_false, beats_trans}
 use Rattle.trees.proofs.Trees.{all_map, all_and, all_at, all_mem, well_in, under_new}
 
@@ -119,6 +119,15 @@ module _ {A : Type 0} (key : A → Pair) where
   HoleFilled none = Unit {0}
   HoleFilled (fork i p l r) = Filled (fork i p l r) (fill key (fork i p l r)).tree (fill key (fork i p l r)).slot
 
+  -- over two sons the hole is filled from the one that a test picks, where that one beats the other
+  filled_two : {i a b : ℕ} {p q v : A} {l r t u : Tree A} {x y : Cut A} (z : Bool)
+      → (z ≡ false → Beats (key v) (key q)) → (z ≡ true → Beats (key q) (key v))
+      → Filled (fork a q l r) x.tree x.slot → Filled (fork b v t u) y.tree y.slot
+      → let c = move_up i (fork a q l r) (fork b v t u) x y (cond z (left_son q) (right_son v)) in
+      Filled (fork i p (fork a q l r) (fork b v t u)) c.tree c.slot
+  filled_two true right left L R = from_left (over (left refl)) L
+  filled_two false right left L R = from_right (over (right refl)) R
+
   fills_fork : (s : Stripe) (i : ℕ) (p : A) (l r : Tree A) → Well key s (fork i p l r) → HoleFilled l → HoleFilled r → HoleFilled (fork i p l r)
   unfolding fill
   fills_fork s i p none none w L R = last
@@ -128,8 +137,7 @@ module _ {A : Type 0} (key : A → Pair) where
       let m = w.left.inside in
       let n = w.right.inside in
       let d : (key q).x ≢ (key v).x = omega arith in
-      on (beats (key q) (key v)) (λ e. rw e (from_left (over (beats_true (key q) (key v) e)) L))
-      (λ e. rw e (from_right (over (beats_false (key q) (key v) d e)) R))
+      filled_two _ (beats_false (key q) (key v) d) (beats_true (key q) (key v)) L R
 
   pub hole_filled : (s : Stripe) (t : Tree A) → Well key s t → HoleFilled t
   hole_filled s none w = tt

@@ -12,6 +12,7 @@ ghost use Rattle.visit.specs.Asking.{left_asked, right_asked};
 use slim::Slim;
 
 // The slot's own pair, if it is a hit, unless what was found so far is smaller.
+#[tactic(auto, using(crate::proofs::Closer::no_hit, crate::proofs::Closer::own_alone, crate::proofs::Closer::smaller_best, crate::proofs::Closer::smaller_own))]
 pub fn smaller_of(pool: &[u32], hit: bool, slot: u32, best: u32) -> u32
     requires { (1 ≤ slot) × Fits pool.now slot × Some pool.now best }
     ensures { Nearer pool.now smaller hit slot best result }
@@ -31,6 +32,7 @@ pub fn smaller_of(pool: &[u32], hit: bool, slot: u32, best: u32) -> u32
 }
 
 // The slot's own pair, if it is a hit, unless what was found so far is larger.
+#[tactic(auto, using(crate::proofs::Closer::no_hit, crate::proofs::Closer::own_alone, crate::proofs::Closer::larger_best, crate::proofs::Closer::larger_own))]
 pub fn larger_of(pool: &[u32], hit: bool, slot: u32, best: u32) -> u32
     requires { (1 ≤ slot) × Fits pool.now slot × Some pool.now best }
     ensures { Nearer pool.now larger hit slot best result }

@@ -1,6 +1,5 @@
 -- The test picks the cell. Nothing is assumed.
 use Rattle.pools.specs.Links.{link_cell}
-use borrow.Author.Rules.{rules}
 use Rattle.cells.proofs.link_cell.Goals as goal
 
 pub returns-then-leftward : goal.returns-then-leftward

@@ -1,6 +1,5 @@
 -- The test picks the link. It assumes that the slot's cells are there.
 use Rattle.pools.specs.Links.{son_at}
-use borrow.Author.Rules.{rules}
 use Rattle.cells.proofs.son.Goals as goal
 
 pub returns-then-leftward : goal.returns-then-leftward

@@ -1,9 +1,6 @@
 -- Each way out is one law of Own.antt: the pair is out of range, finds no room, or is written. It assumes a count within the room.
 use native.Mathlib.Omega.{arith}
-use lib.ListN.{length-set}
-use borrow.Author.Tests.{not-true, not-false}
 use Rattle.jot.proofs.Own.{own_out, own_counted, own_put}
-use borrow.Author.Rules.{rules}
 use Rattle.jot.proofs.list_own.Goals as goal
 
 pub returns-then-not-in_range : goal.returns-then-not-in_range
@@ -12,8 +9,8 @@ returns-then-not-in_range c =
 
 pub returns-then-room_of-count : goal.returns-then-room_of-count
 returns-then-room_of-count c =
-    own_counted _ _ c.args.x0 c.args.x1 c.args.p c.in_range.ensures c.if-not-in_range.false _ c.room_of.ensures c.if-room_of-count.true
+    own_counted _ _ c.args.x0 c.args.x1 c.args.p c.in_range.ensures c.if-not-in_range.false _ c.room_of.ensures (omega arith)
 
 pub returns : goal.returns
 returns c =
-    own_put _ _ c.args.x0 c.args.x1 c.args.p c.in_range.ensures c.if-not-in_range.false _ c.room_of.ensures c.if-room_of-count.false
+    own_put _ _ c.args.x0 c.args.x1 c.args.p c.in_range.ensures c.if-not-in_range.false _ c.room_of.ensures (omega arith)

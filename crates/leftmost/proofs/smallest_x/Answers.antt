@@ -3,16 +3,20 @@
 use Prim.Native.Nat.{◌<◌}
 use mathlib.Core.Path.{refl}
 use native.Mathlib.Omega.{arith}
-use borrow.Author.Rules.{rules}
-use Rattle.pools.specs.Cells.{root_of, tree_at}
-use Rattle.plain.specs.Plain.{limits, smaller}
-use Rattle.stripes.specs.Stripe.{low_levels, all_levels, root_stripe}
+use Rattle.plain.specs.Plain.{smaller}
+use Rattle.stripes.specs.Stripe.{low_levels}
 use Rattle.walks.specs.Walks.{smallest_x}
-use Rattle.questions.proofs.Top.{header}
-use Rattle.nearest.specs.Waiting.{InRows}
-use Rattle.nearest.proofs.InRows.{to_walk, here_fits, middle_fits, at_end, pop, pop_less, fits, one_more, row_too_high, high_less, to_far, to_near, room_left, push, far_less, near_less, push_less, start}
+use Rattle.nearest.proofs.InRows.{here_fits, middle_fits, at_end, pop, pop_less, fits, one_more, row_too_high, high_less, to_far, to_near, room_left, push, far_less, near_less, push_less, start}
 use Rattle.nearest.proofs.Sides.{smallest_x_walk, smallest_sons}
 use Rattle.leftmost.proofs.smallest_x.Goals as goal
+
+pub loop-slot-preserved-then-left-eq0 : goal.loop-slot-preserved-then-left-eq0
+loop-slot-preserved-then-left-eq0 c =
+    to_far c.loop-slot.invariant (smallest_x_walk _) c.if-slot-eq0.false (smallest_sons _ _ _ _ _ (here_fits c.loop-slot.invariant) c.if-slot-eq0.false _ _ _ _ c.left_asked-left.ensures c.right_asked-right.ensures refl c.right-at.ensures) c.pair-p.ensures c.if-y1-p.false c.in_range-hit.ensures c.smaller_of-best.ensures c.still-wait.ensures c.if-left-eq0.true
+
+pub loop-slot-preserved-then-right-ne0 : goal.loop-slot-preserved-then-right-ne0
+loop-slot-preserved-then-right-ne0 c =
+    push c.loop-slot.invariant (smallest_x_walk _) c.if-slot-eq0.false (smallest_sons _ _ _ _ _ (here_fits c.loop-slot.invariant) c.if-slot-eq0.false _ _ _ _ c.left_asked-left.ensures c.right_asked-right.ensures c.left-near.ensures c.right-far.ensures) c.pair-p.ensures c.if-y1-p.false c.in_range-hit.ensures c.smaller_of-best.ensures c.still-wait.ensures c.if-left-eq0.false
 
 pub loop-slot-init : goal.loop-slot-init
 loop-slot-init c =
@@ -59,10 +63,6 @@ pub loop-slot-smaller-then-left-eq0 : goal.loop-slot-smaller-then-left-eq0
 loop-slot-smaller-then-left-eq0 c =
     far_less c.loop-slot.invariant (smallest_x_walk _) c.if-slot-eq0.false (smallest_sons _ _ _ _ _ (here_fits c.loop-slot.invariant) c.if-slot-eq0.false _ _ _ _ c.left_asked-left.ensures c.right_asked-right.ensures refl c.right-at.ensures) c.pair-p.ensures c.if-y1-p.false c.in_range-hit.ensures c.smaller_of-best.ensures c.still-wait.ensures
 
-pub loop-slot-preserved-then-left-eq0 : goal.loop-slot-preserved-then-left-eq0
-loop-slot-preserved-then-left-eq0 c =
-    to_far c.loop-slot.invariant (smallest_x_walk _) c.if-slot-eq0.false (smallest_sons _ _ _ _ _ (here_fits c.loop-slot.invariant) c.if-slot-eq0.false _ _ _ _ c.left_asked-left.ensures c.right_asked-right.ensures refl c.right-at.ensures) c.pair-p.ensures c.if-y1-p.false c.in_range-hit.ensures c.smaller_of-best.ensures c.still-wait.ensures c.if-left-eq0.true
-
 pub right-far-requires : goal.right-far-requires
 right-far-requires c = middle_fits c.loop-slot.invariant
 
@@ -78,10 +78,6 @@ bounds-halves-wait-then-right-ne0 c = let room-here : c.still-wait.result < low_
 pub loop-slot-smaller-then-right-ne0 : goal.loop-slot-smaller-then-right-ne0
 loop-slot-smaller-then-right-ne0 c =
     push_less c.loop-slot.invariant (smallest_x_walk _) c.if-slot-eq0.false (smallest_sons _ _ _ _ _ (here_fits c.loop-slot.invariant) c.if-slot-eq0.false _ _ _ _ c.left_asked-left.ensures c.right_asked-right.ensures c.left-near.ensures c.right-far.ensures) c.pair-p.ensures c.if-y1-p.false c.in_range-hit.ensures c.smaller_of-best.ensures c.still-wait.ensures c.if-left-eq0.false
-
-pub loop-slot-preserved-then-right-ne0 : goal.loop-slot-preserved-then-right-ne0
-loop-slot-preserved-then-right-ne0 c =
-    push c.loop-slot.invariant (smallest_x_walk _) c.if-slot-eq0.false (smallest_sons _ _ _ _ _ (here_fits c.loop-slot.invariant) c.if-slot-eq0.false _ _ _ _ c.left_asked-left.ensures c.right_asked-right.ensures c.left-near.ensures c.right-far.ensures) c.pair-p.ensures c.if-y1-p.false c.in_range-hit.ensures c.smaller_of-best.ensures c.still-wait.ensures c.if-left-eq0.false
 
 pub loop-slot-smaller : goal.loop-slot-smaller
 loop-slot-smaller c =

@@ -1,17 +1,11 @@
 -- The invariant: what is still to be walked, after what was found so far, gives the answer. It assumes a sound pool; each turn takes away a
 -- slot that is still to be walked, or a stop that waits.
-use Prim.Native.Nat.{◌<◌}
-use mathlib.Core.Path.{refl}
-use native.Mathlib.Omega.{arith}
-use borrow.Author.Rules.{rules}
 use Rattle.pools.specs.Cells.{root_of, tree_at}
 use Rattle.plain.specs.Plain.{limits, smaller}
-use Rattle.stripes.specs.Stripe.{low_levels, all_levels, root_stripe}
+use Rattle.stripes.specs.Stripe.{all_levels, root_stripe}
 use Rattle.walks.specs.Walks.{smallest_x}
-use Rattle.questions.proofs.Top.{header}
 use Rattle.nearest.specs.Waiting.{InRows}
-use Rattle.nearest.proofs.InRows.{to_walk, here_fits, middle_fits, at_end, pop, pop_less, fits, one_more, row_too_high, high_less, to_far, to_near, room_left, push, far_less, near_less, push_less, start}
-use Rattle.nearest.proofs.Sides.{smallest_x_walk, smallest_sons}
+use Rattle.nearest.proofs.InRows.{to_walk}
 use Rattle.leftmost.proofs.smallest_x.Given as goal
 
 abbrev pub invariant-loop-slot : goal.invariant-loop-slot

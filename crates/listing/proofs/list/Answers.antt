@@ -3,7 +3,6 @@
 use native.Mathlib.Omega.{arith}
 use mathlib.Core.Path.{refl}
 use Rattle.listing.proofs.ListTop.{from_root_lem, room_fits, count_fits, list_full, list_whole, list_empty}
-use borrow.Author.Rules.{rules}
 use Rattle.listing.proofs.list.Goals as goal
 
 pub returns-then-root-eq0 : goal.returns-then-root-eq0

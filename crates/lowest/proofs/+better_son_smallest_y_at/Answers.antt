@@ -1,11 +1,12 @@
 -- A slot answers for itself or by its sons; a son that is asked has a level less. It assumes that the links lead to the trees that are read,
 -- and that the visits fit 32 bits.
-use Prim.Native.Nat.{ℕ, ◌+◌, ◌*◌, ◌<◌}
 use native.Mathlib.Omega.{arith}
-use Rattle.questions.proofs.Places.{there, one_more}
 use Rattle.lowest.proofs.YWalk.{left_deep, right_deep, left_here, right_here, right_then, both_asked, left_only, right_only, neither_asked, sons_asked, own_pair, from_sons}
-use borrow.Author.Rules.{rules}
 use Rattle.lowest.proofs.+better_son_smallest_y_at.Goals as goal
+
+pub better_son-returns-then-to_left : goal.better_son-returns-then-to_left
+better_son-returns-then-to_left t c =
+    left_only _ _ _ _ _ c.args.x0 c.args.x1 _ c.requires _ c.goes_left.ensures _ c.asks-to_left.ensures _ c.goes_left-2.ensures _ c.asks-to_right.ensures _ c.if-to_left.true c.left.ensures _ _ c.smallest_y_at-l.ensures c.if-to_right.false
 
 pub better_son-overflow_sub-levels : goal.better_son-overflow_sub-levels
 better_son-overflow_sub-levels t c =
@@ -28,10 +29,6 @@ better_son-smallest_y_at-r-requires t c =
 pub better_son-returns-then-to_right : goal.better_son-returns-then-to_right
 better_son-returns-then-to_right t c =
     both_asked _ _ _ _ _ _ _ _ c.requires _ c.goes_left.ensures _ c.asks-to_left.ensures _ c.goes_left-2.ensures _ c.asks-to_right.ensures _ c.if-to_left.true c.left.ensures _ _ c.smallest_y_at-l.ensures _ c.if-to_right.true c.right.ensures _ _ _ c.smallest_y_at-r.ensures c.lower.ensures
-
-pub better_son-returns-then-to_left : goal.better_son-returns-then-to_left
-better_son-returns-then-to_left t c =
-    left_only _ _ _ _ _ _ _ _ c.requires _ c.goes_left.ensures _ c.asks-to_left.ensures _ c.goes_left-2.ensures _ c.asks-to_right.ensures _ c.if-to_left.true c.left.ensures _ _ c.smallest_y_at-l.ensures c.if-to_right.false
 
 pub better_son-overflow_sub-levels-then-to_right-2 : goal.better_son-overflow_sub-levels-then-to_right-2
 better_son-overflow_sub-levels-then-to_right-2 t c =

@@ -2,7 +2,6 @@
 use Rattle.questions.proofs.Top.{header, root_here, top_none, top_walked}
 use Rattle.lowest.proofs.YWalk.{smallest_y_empty}
 use Rattle.walks.specs.Walks.{smallest_y}
-use borrow.Author.Rules.{rules}
 use Rattle.lowest.proofs.smallest_y.Goals as goal
 
 pub root-root-requires : goal.root-root-requires

@@ -3,16 +3,20 @@
 use Prim.Native.Nat.{◌<◌}
 use mathlib.Core.Path.{refl}
 use native.Mathlib.Omega.{arith}
-use borrow.Author.Rules.{rules}
-use Rattle.pools.specs.Cells.{root_of, tree_at}
-use Rattle.plain.specs.Plain.{limits, larger}
-use Rattle.stripes.specs.Stripe.{low_levels, all_levels, root_stripe}
+use Rattle.plain.specs.Plain.{larger}
+use Rattle.stripes.specs.Stripe.{low_levels}
 use Rattle.walks.specs.Walks.{largest_x}
-use Rattle.questions.proofs.Top.{header}
-use Rattle.nearest.specs.Waiting.{InRows}
-use Rattle.nearest.proofs.InRows.{to_walk, here_fits, middle_fits, at_end, pop, pop_less, fits, one_more, row_too_high, high_less, to_far, to_near, room_left, push, far_less, near_less, push_less, start}
+use Rattle.nearest.proofs.InRows.{here_fits, middle_fits, at_end, pop, pop_less, fits, one_more, row_too_high, high_less, to_far, to_near, room_left, push, far_less, near_less, push_less, start}
 use Rattle.nearest.proofs.Sides.{largest_x_walk, largest_sons}
 use Rattle.rightmost.proofs.largest_x.Goals as goal
+
+pub loop-slot-preserved-then-right-eq0 : goal.loop-slot-preserved-then-right-eq0
+loop-slot-preserved-then-right-eq0 c =
+    to_far c.loop-slot.invariant (largest_x_walk _) c.if-slot-eq0.false (largest_sons _ _ _ _ _ (here_fits c.loop-slot.invariant) c.if-slot-eq0.false _ _ _ _ c.left_asked-left.ensures c.right_asked-right.ensures c.left-at.ensures refl) c.pair-p.ensures c.if-y1-p.false c.in_range-hit.ensures c.larger_of-best.ensures c.still-wait.ensures c.if-right-eq0.true
+
+pub loop-slot-preserved-then-left-ne0 : goal.loop-slot-preserved-then-left-ne0
+loop-slot-preserved-then-left-ne0 c =
+    push c.loop-slot.invariant (largest_x_walk _) c.if-slot-eq0.false (largest_sons _ _ _ _ _ (here_fits c.loop-slot.invariant) c.if-slot-eq0.false _ _ _ _ c.left_asked-left.ensures c.right_asked-right.ensures c.left-far.ensures c.right-near.ensures) c.pair-p.ensures c.if-y1-p.false c.in_range-hit.ensures c.larger_of-best.ensures c.still-wait.ensures c.if-right-eq0.false
 
 pub loop-slot-init : goal.loop-slot-init
 loop-slot-init c =
@@ -56,10 +60,6 @@ pub loop-slot-smaller-then-right-eq0 : goal.loop-slot-smaller-then-right-eq0
 loop-slot-smaller-then-right-eq0 c =
     far_less c.loop-slot.invariant (largest_x_walk _) c.if-slot-eq0.false (largest_sons _ _ _ _ _ (here_fits c.loop-slot.invariant) c.if-slot-eq0.false _ _ _ _ c.left_asked-left.ensures c.right_asked-right.ensures c.left-at.ensures refl) c.pair-p.ensures c.if-y1-p.false c.in_range-hit.ensures c.larger_of-best.ensures c.still-wait.ensures
 
-pub loop-slot-preserved-then-right-eq0 : goal.loop-slot-preserved-then-right-eq0
-loop-slot-preserved-then-right-eq0 c =
-    to_far c.loop-slot.invariant (largest_x_walk _) c.if-slot-eq0.false (largest_sons _ _ _ _ _ (here_fits c.loop-slot.invariant) c.if-slot-eq0.false _ _ _ _ c.left_asked-left.ensures c.right_asked-right.ensures c.left-at.ensures refl) c.pair-p.ensures c.if-y1-p.false c.in_range-hit.ensures c.larger_of-best.ensures c.still-wait.ensures c.if-right-eq0.true
-
 pub right-near-requires : goal.right-near-requires
 right-near-requires c = middle_fits c.loop-slot.invariant
 
@@ -75,10 +75,6 @@ bounds-halves-wait-then-left-ne0 c = let room-here : c.still-wait.result < low_l
 pub loop-slot-smaller-then-left-ne0 : goal.loop-slot-smaller-then-left-ne0
 loop-slot-smaller-then-left-ne0 c =
     push_less c.loop-slot.invariant (largest_x_walk _) c.if-slot-eq0.false (largest_sons _ _ _ _ _ (here_fits c.loop-slot.invariant) c.if-slot-eq0.false _ _ _ _ c.left_asked-left.ensures c.right_asked-right.ensures c.left-far.ensures c.right-near.ensures) c.pair-p.ensures c.if-y1-p.false c.in_range-hit.ensures c.larger_of-best.ensures c.still-wait.ensures c.if-right-eq0.false
-
-pub loop-slot-preserved-then-left-ne0 : goal.loop-slot-preserved-then-left-ne0
-loop-slot-preserved-then-left-ne0 c =
-    push c.loop-slot.invariant (largest_x_walk _) c.if-slot-eq0.false (largest_sons _ _ _ _ _ (here_fits c.loop-slot.invariant) c.if-slot-eq0.false _ _ _ _ c.left_asked-left.ensures c.right_asked-right.ensures c.left-far.ensures c.right-near.ensures) c.pair-p.ensures c.if-y1-p.false c.in_range-hit.ensures c.larger_of-best.ensures c.still-wait.ensures c.if-right-eq0.false
 
 pub loop-slot-smaller : goal.loop-slot-smaller
 loop-slot-smaller c =

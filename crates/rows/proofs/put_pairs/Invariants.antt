@@ -1,7 +1,5 @@
 -- The invariant: what is still to be written, written, gives what was to be written at first. It assumes a sound pool, and room for the book.
-use mathlib.Core.Path.{refl}
-use Rattle.rows.proofs.Next.{to_write, Turn, nothing_left, next_pair, one_less, next_last, first_turn, all_written, room_here, next_turn, last_written}
-use borrow.Author.Rules.{rules}
+use Rattle.rows.proofs.Next.{to_write, Turn}
 use lib.ListN.{length}
 use Rattle.rows.proofs.put_pairs.Given as goal
 

@@ -1,5 +1,4 @@
 -- Each way out is one test. It assumes that the slot's cells are there, and that the middle fits 32 bits.
-use borrow.Author.Rules.{rules}
 use mathlib.Core.Path.{◌∙◌, sym}
 use Rattle.visit.specs.Asking.{left_asked}
 use Rattle.visit.proofs.left_asked.Goals as goal

@@ -1,6 +1,5 @@
 -- Each way out is one test: the code asks `x1 < m` where the rule asks `m ≤ x1`. It assumes that the slot's cells are there, and that the
 -- middle fits 32 bits.
-use borrow.Author.Rules.{rules}
 use borrow.Author.Tests.{le-leb, lt-leb, ltb-true, ltb-false}
 use mathlib.Core.Path.{◌∙◌, sym}
 use Rattle.visit.specs.Asking.{right_asked}

@@ -1,5 +1,4 @@
 -- The bit is the level's. It assumes a level from 1 to 32.
-use borrow.Author.Rules.{rules}
 use Rattle.stripes.proofs.Heights.{bit_of}
 use Rattle.stripes.proofs.Stripe.is_left.Goals as goal
 

@@ -1,7 +1,6 @@
 -- The test picks the part. It assumes that the stripe's ends can be added (`Low`).
 use mathlib.Core.Path.{sym, ◌∙◌}
 use Rattle.stripes.specs.Heights.{part_of}
-use borrow.Author.Rules.{rules}
 use Rattle.stripes.proofs.Stripe.towards.Goals as goal
 
 pub returns-then-goes_left : goal.returns-then-goes_left
