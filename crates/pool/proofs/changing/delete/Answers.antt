@@ -1,5 +1,4 @@
 -- The code as an answer. Nothing is assumed.
-use borrow.Author.Rules.{rules}
 use Rattle.pool.proofs.changing.delete.Goals as goal
 
 pub returns : goal.returns

@@ -1,5 +1,4 @@
 -- The code as an answer. Nothing is assumed.
-use borrow.Author.Rules.{rules}
 use Rattle.pool.proofs.changing.insert.Goals as goal
 
 pub returns : goal.returns

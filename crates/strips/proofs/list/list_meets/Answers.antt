@@ -1,7 +1,6 @@
 -- The verdict on the pool decides. Nothing is assumed.
 use Rattle.sound.proofs.Lines.{verdict_sound, entry_passed, entry_refused}
 use Rattle.promises.specs.Promises.{list_meets}
-use borrow.Author.Rules.{rules}
 use Rattle.strips.proofs.list.list_meets.Goals as goal
 
 pub returns-then-verdict-ne-DONE : goal.returns-then-verdict-ne-DONE
