@@ -34,7 +34,7 @@ pub const CLOSE: u32 = 7;
 pub const LISTING: u32 = 14;
 
 // A call, with up to three numbers in the order of its parameters.
-#[derive(Drop)]
+#[derive(Clone, Copy)]
 pub struct Call {
     pub kind: u32,
     pub a: u32,

@@ -6,6 +6,7 @@ mod plainly;
 mod step;
 
 use desk::*;
+use std::io;
 use step::*;
 
 // What a fresh pool of n cells holds in one.
@@ -44,7 +45,7 @@ fn damaged(old: u32, cell: u32, drawn: u32) -> u32 {
 }
 
 // Makes a call that is refused: by 1 for a length that is too small, too large or uneven, or, if it is no set up, by 2 for a damaged cell.
-fn refuse(desk: &mut Desk, code: u32, turn: u32) {
+fn refuse(rt: &impl Print, desk: &mut Desk, code: u32, turn: u32) {
     let drawn = draw(turn, 13);
     let kind = add(below(sub(18, code), draw(turn, 14)), code);
     let asked = call_of(desk, kind, turn);
@@ -56,7 +57,7 @@ fn refuse(desk: &mut Desk, code: u32, turn: u32) {
     let len = pick(drawn % 8 < 3, even, uneven);
     let value = pick(code == 1, len, damaged(old, cell, drawn));
     put(desk, part, cell, value);
-    one(desk, asked, code, turn);
+    one(rt, desk, asked, code, turn);
     put(desk, part, cell, old);
     count(desk, sub(34, code));
 }
@@ -89,7 +90,7 @@ fn call_at(desk: &Desk, turn: u32) -> Call {
 }
 
 // Turns, and then their changes are taken back, last first. Every 128 turns a run starts: taken back, each cell is as it was there.
-fn run(desk: &mut Desk, turn: u32, left: u32) {
+fn run(rt: &impl Print, desk: &mut Desk, turn: u32, left: u32) {
     if left == 0 {
         return;
     }
@@ -99,60 +100,58 @@ fn run(desk: &mut Desk, turn: u32, left: u32) {
         copy(desk, POOL, start, n);
     }
     if turn % 6 == 0 {
-        refuse(desk, turn / 6 % 2 + 1, turn);
+        refuse(rt, desk, turn / 6 % 2 + 1, turn);
     }
     let is_filled = (turn % 8192 == 2304) & is_full(desk);
     let is_emptied = (turn % 8192 == 3840) & (rows(desk) == 0);
     count(desk, pick(is_filled, 30, pick(is_emptied, 31, 0)));
     let asked = call_at(desk, turn);
     let back = new_call(asked.kind ^ 1, asked.a, asked.b, asked.c);
-    let is_done = one(desk, asked, 0, turn);
-    run(desk, add(turn, 1), left - 1);
+    let is_done = one(rt, desk, asked, 0, turn);
+    run(rt, desk, add(turn, 1), left - 1);
     if is_done {
-        one(desk, back, 0, turn);
+        one(rt, desk, back, 0, turn);
         count(desk, 35);
     }
     if turn % 128 == 0 {
         let is_back = copy(desk, POOL, start, n);
-        tell(desk, 34, is_back, turn);
+        tell(rt, desk, 34, is_back, turn);
     }
 }
 
 // Pools of each length, and smaller ones again, are set up over anything, checked, and have 4,224 turns in eleven phases; the longest has two turns.
-fn lives(desk: &mut Desk) {
+fn lives(rt: &impl Print, desk: &mut Desk) {
     let lens = [8, 12, 16, 24, 64, 260, 1024, 4096, 16384];
     for i in 0..27 {
         let k = pick(i < 9, i, i % 6);
         let n = lens[(k % 9) as usize];
         let turn = (i + 1) << 13;
         litter(desk, n);
-        one(desk, new_call(SET_UP, 0, 0, 0), 0, turn);
+        one(rt, desk, new_call(SET_UP, 0, 0, 0), 0, turn);
         let is_fresh = copy(desk, POOL, FRESH, n);
-        tell(desk, 0, is_fresh, turn);
-        one(desk, new_call(2, 0, 0, 0), 0, turn);
-        run(desk, turn, pick(k == 8, 2, 4224));
+        tell(rt, desk, 0, is_fresh, turn);
+        one(rt, desk, new_call(2, 0, 0, 0), 0, turn);
+        run(rt, desk, turn, pick(k == 8, 2, 4224));
     }
 }
 
 // Each count behind its name.
-fn print(desk: &Desk, names: &[u8]) {
+fn print(rt: &impl Print, desk: &Desk, names: &str) -> io::Result<()> {
     let mut n: u32 = 1;
-    for i in 0..names.len() {
-        if names[i] == b'\n' {
-            io::write_all(1, b": ");
-            io::print_decimal(1, at(desk, COUNTS, n) as u64);
-            n = add(n, 1);
-        }
-        io::write_all(1, &names[i..i + 1]);
+    for name in names.lines() {
+        let count = at(desk, COUNTS, n);
+        println!(rt; "{name}: {count}")?;
+        n = add(n, 1);
     }
+    Ok(())
 }
 
-fn main() {
+fn main(rt: HostRuntime) -> io::Result<()> {
     let mut desk = [0u32; 262144];
-    lives(&mut desk);
-    let names: &[u8] =
-        b"set up\ncheck\nsave\ninsert\ndelete\nopen\nclose\nsmallest x\nlargest x\nsmallest y\nfirst to end\nlast to end\nearliest start\nlisting\nlist covers\nlist meets\nlist contains\n\
+    lives(&rt, &mut desk);
+    let names =
+        "set up\ncheck\nsave\ninsert\ndelete\nopen\nclose\nsmallest x\nlargest x\nsmallest y\nfirst to end\nlast to end\nearliest start\nlisting\nlist covers\nlist meets\nlist contains\n\
 code 0\ncode 1\ncode 2\ncode 3\ncode 4\ncode 5\ncode 6\ncode 7\ncode 8\ncode 9\ncode 10\ncode 11\n\
 pools filled\npools emptied\npools damaged\nlengths that are no pool's\nruns taken back\nchanges taken back\ndifferences\n";
-    print(&desk, names);
+    print(&rt, &desk, names)
 }

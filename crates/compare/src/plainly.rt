@@ -3,7 +3,7 @@ use crate::desk::*;
 use kinds::Five;
 
 // How many rows match, and the best of them.
-#[derive(Drop)]
+#[derive(Clone, Copy)]
 pub struct Found {
     pub count: u32,
     pub best: u32,

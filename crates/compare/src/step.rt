@@ -93,14 +93,11 @@ fn made(desk: &mut Desk, asked: Call, lent: u32, written: u32, turn: u32) -> Fiv
 }
 
 // Counts a thing that was done; if it is not right, that is a difference, and its count and turn are printed.
-pub fn tell(desk: &mut Desk, i: u32, is_right: bool, turn: u32) {
+pub fn tell(rt: &impl Print, desk: &mut Desk, i: u32, is_right: bool, turn: u32) {
     count(desk, i);
     if !is_right {
         count(desk, 36);
-        io::print_decimal(1, i as u64);
-        io::write_all(1, b" differs in turn ");
-        io::print_decimal(1, turn as u64);
-        io::write_all(1, b"\n");
+        let _ = println!(rt; "{i} differs in turn {turn}");
     }
 }
 
@@ -112,7 +109,7 @@ fn lent_to(kind: u32, need: u32, drawn: u32) -> u32 {
 }
 
 // Makes a call, on a pool of this health, and the same on the list, and compares; says whether a change was done.
-pub fn one(desk: &mut Desk, asked: Call, health: u32, turn: u32) -> bool {
+pub fn one(rt: &impl Print, desk: &mut Desk, asked: Call, health: u32, turn: u32) -> bool {
     let kind = asked.kind;
     let is_change = (kind == SET_UP) | (SAVE < kind) & (kind <= CLOSE);
     let found = scan(desk, as_pair(asked));
@@ -133,6 +130,6 @@ pub fn one(desk: &mut Desk, asked: Call, health: u32, turn: u32) -> bool {
     }
     let is_left = is_done & (at(desk, POOL, 3) == rows(desk)) | !is_done & is_kept;
     count(desk, got.code % 12 + 18);
-    tell(desk, kind, is_told & is_left, turn);
+    tell(rt, desk, kind, is_told & is_left, turn);
     is_done
 }

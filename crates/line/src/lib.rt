@@ -13,7 +13,7 @@ const LONGEST: usize = 63;
 const SPACE: u8 = 32;
 
 // What a line asks.
-#[derive(Drop)]
+#[derive(Clone, Copy)]
 pub enum Asked {
     Open { start: u32, end: u32, number: u32 },
     Close { start: u32, end: u32, number: u32 },

@@ -16,10 +16,10 @@ use Rattle.plain.specs.Plain.{smallest_x_of, largest_x_of, smallest_y_of, has_x,
 use Rattle.kinds.specs.Promise.{by_lines}
 use Rattle.stripes.specs.Stripe as stripe
 use Rattle.pools.specs.Test.{is_pool, slot_fine, alone, fine, below, root_fine, free_fine, chain_fine, rest_fine, is_sound}
-use Rattle.walks.specs.Walks.{smallest_x, largest_x, smallest_y, listing}
+use Rattle.walks.specs.Walks as walks
+use Rattle.walks.specs.Walks.{listing}
 use Rattle.kinds.proofs.Tests.{clash}
 use Rattle.sound.specs.Promises as check_first
-use Rattle.sound.specs.Promises.{set_up}
 use Rattle.plain.specs.Books.{plain_insert, plain_delete, plain_smallest_x, plain_largest_x, plain_smallest_y, plain_listing}
 use Rattle.plain.specs.Strips.{plain_open, plain_close, plain_first, plain_last, plain_earliest, plain_covers, plain_meets, plain_contains}
 use Rattle.pages.specs.Book.{by_x, book_bytes, plain_save}
@@ -38,7 +38,7 @@ off i m n f c d ec ed e = eqb-false m n f (sym ec ∙ ap (λ c. get_or c i 0) e 
 
 -- law: each kind's promise serves some input, answers another otherwise, and writes where its kind does
 pub shown : (K : Kind) → Shown K (sample K)
-unfolding five numbers_of promised set_up check_first.check by_lines is_pool fresh free_slots insertion is_sound root_fine slot_fine below fine alone met stripe.holds rest_fine chain_fine free_fine is_free stored_from tree_at has_x has inserted lay go_down beats largest_x_asked largest_x_of largest_x deletion deleted fill take_out smallest_x_asked smallest_x_of smallest_x smallest_y_asked smallest_y_of smallest_y listing_asked listing opening closing first_to_end last_to_end earliest_start list_covers list_meets list_contains saved book_bytes by_x plain_insert plain_delete plain_smallest_x plain_largest_x plain_smallest_y plain_listing plain_open plain_close plain_first plain_last plain_earliest plain_covers plain_meets plain_contains plain_save
+unfolding five numbers_of promised check_first.set_up check_first.check by_lines is_pool fresh free_slots insertion is_sound root_fine slot_fine below fine alone met stripe.holds rest_fine chain_fine free_fine is_free stored_from tree_at has_x has inserted lay go_down beats largest_x_asked largest_x_of walks.largest_x deletion deleted fill take_out smallest_x_asked smallest_x_of walks.smallest_x smallest_y_asked smallest_y_of walks.smallest_y listing_asked listing opening closing first_to_end last_to_end earliest_start list_covers list_meets list_contains saved book_bytes by_x plain_insert plain_delete plain_smallest_x plain_largest_x plain_smallest_y plain_listing plain_open plain_close plain_first plain_last plain_earliest plain_covers plain_meets plain_contains plain_save
 shown set_ups = record { kind = refl; serves = refl; differs = apart 0 1 refl _ _ refl refl; writes = λ t e o. off 3 0 1 refl _ _ refl refl e }
 shown inserts = record { kind = refl; serves = refl; differs = apart 0 4 refl _ _ refl refl; writes = λ t e o. off 3 1 0 refl _ _ refl refl e }
 shown deletes = record { kind = refl; serves = refl; differs = apart 0 6 refl _ _ refl refl; writes = λ t e o. off 3 0 1 refl _ _ refl refl e }

@@ -10,6 +10,7 @@ use line::Asked;
 use lines::Told;
 
 // What refuses a line before its call, or 0. A malformed line needs no check.
+#[tactic(auto, unfolding(lines::specs::Writing::refusal_of))]
 fn refusal(pool: &[u32], asked: Asked) -> u32
     ensures { result ≡ refusal_of pool.now asked }
 {

@@ -1,7 +1,7 @@
 // Set up and check: the two calls that accept any cells at all.
 #![tactic(auto)]
 
-ghost use Rattle.std.specs.Prelude.{◌≡◌, ◌-◌};
+ghost use Rattle.std.specs.Prelude.{◌≡◌};
 ghost use Rattle.kinds.specs.Promise.{Changes, Answers};
 ghost use Rattle.pools.specs.Sound.{Pool};
 ghost use Rattle.pools.specs.Test.{is_sound};

@@ -5,11 +5,14 @@
 ghost use Rattle.std.specs.Prelude.{◌≤◌, length};
 ghost use Rattle.pools.specs.Sound.{Sound};
 
-use bytes::scan;
 use lines::Told;
+use std::io::{Read, Write};
 
 // The bytes of a line that are kept while its end has not been read: one more than a line may have.
 const KEPT: usize = 64;
+
+// How many bytes are read at once at most, and written at once.
+const PIECE: usize = 65536;
 
 const NEWLINE: u8 = 10;
 
@@ -38,14 +41,21 @@ struct Left {
 }
 
 // The first bytes of the output are written; the answer says whether they could be.
-fn flush(output: &[u8], held: usize) -> bool
+fn flush(writer: &mut impl Write, output: &[u8], held: usize) -> bool
     requires { held ≤ length output.now }
 {
-    io::write_all(1, &output[..held])
+    writer.write_all(&output[..held]).is_ok()
 }
 
 // A line is answered behind what the output holds, which is written first where there may be no room.
-fn answer(cells: &mut [u32], room: &mut [u32], line: &[u8], output: &mut [u8], held: usize) -> Held
+fn answer(
+    writer: &mut impl Write,
+    cells: &mut [u32],
+    room: &mut [u32],
+    line: &[u8],
+    output: &mut [u8],
+    held: usize,
+) -> Held
     requires { Sound cells.old × (held ≤ length output.old) }
     ensures { Sound cells.new × (result.bytes ≤ length output.old) }
 {
@@ -56,7 +66,7 @@ fn answer(cells: &mut [u32], room: &mut [u32], line: &[u8], output: &mut [u8], h
             open: true,
         };
     }
-    if !flush(output, held) {
+    if !flush(writer, output, held) {
         return Held {
             bytes: 0,
             open: false,
@@ -77,6 +87,7 @@ fn answer(cells: &mut [u32], room: &mut [u32], line: &[u8], output: &mut [u8], h
 
 // The lines that end within the first bytes of the input, as long as the output can be written.
 fn answer_lines(
+    writer: &mut impl Write,
     cells: &mut [u32],
     room: &mut [u32],
     input: &[u8],
@@ -92,11 +103,11 @@ fn answer_lines(
         open: true,
     };
     while held.open {
-        let end = scan::find(input, from, to, NEWLINE);
-        if end == to {
+        let Some(length) = input[from..to].iter().position(|b| *b == NEWLINE) else {
             break;
-        }
-        held = answer(cells, room, &input[from..end], output, held.bytes);
+        };
+        let end = from + length;
+        held = answer(writer, cells, room, &input[from..end], output, held.bytes);
         from = end + 1;
     }
     Reached { from, held }
@@ -119,17 +130,19 @@ fn keep(input: &mut [u8], from: usize, to: usize) -> usize
 }
 
 // What the output holds is written, if all before it could be; the answer says whether it was.
-fn finish(output: &[u8], held: Held) -> bool
+fn finish(writer: &mut impl Write, output: &[u8], held: Held) -> bool
     requires { held.bytes ≤ length output.now }
 {
     if !held.open {
         return false;
     }
-    flush(output, held.bytes)
+    flush(writer, output, held.bytes)
 }
 
 // What is read goes behind the kept bytes; the lines that end in it are answered. Where that cannot be written nothing is kept.
 fn turn(
+    reader: &mut impl Read,
+    writer: &mut impl Write,
     cells: &mut [u32],
     room: &mut [u32],
     input: &mut [u8],
@@ -139,15 +152,14 @@ fn turn(
     requires { Sound cells.old × (kept ≤ length input.old) }
     ensures { Sound cells.new × (result.kept ≤ length input.new) }
 {
-    let free = &mut input[kept..];
-    let got = io::count(libc::read(0, free), free);
+    let got = reader.read(&mut input[kept..]).unwrap_or(0);
     if got == 0 {
         return Left { kept, more: false };
     }
     let to = kept + got;
-    let reached = answer_lines(cells, room, input, to, output);
+    let reached = answer_lines(writer, cells, room, input, to, output);
     let held = reached.held;
-    if !finish(output, held) {
+    if !finish(writer, output, held) {
         return Left {
             kept: 0,
             more: false,
@@ -160,40 +172,59 @@ fn turn(
 }
 
 // Turns until nothing more is read or written. What is kept is then the last line, if its newline is missing.
-fn read_all(cells: &mut [u32], room: &mut [u32], input: &mut [u8], output: &mut [u8]) -> usize
+fn read_all(
+    reader: &mut impl Read,
+    writer: &mut impl Write,
+    cells: &mut [u32],
+    room: &mut [u32],
+    input: &mut [u8],
+    output: &mut [u8],
+) -> usize
     requires { Sound cells.old }
     ensures { Sound cells.new × (result ≤ length input.new) }
 {
     let mut kept = 0;
-    let mut left = READS;
-    while 0 < left {
-        let t = turn(cells, room, input, kept, output);
+    for _ in 0..READS {
+        let t = turn(reader, writer, cells, room, input, kept, output);
         if !t.more {
             return t.kept;
         }
         kept = t.kept;
-        left -= 1;
     }
     kept
 }
 
 // The whole input is answered, and the last line too if its newline is missing.
-fn run(cells: &mut [u32], room: &mut [u32], input: &mut [u8], output: &mut [u8])
+fn run(
+    reader: &mut impl Read,
+    writer: &mut impl Write,
+    cells: &mut [u32],
+    room: &mut [u32],
+    input: &mut [u8],
+    output: &mut [u8],
+)
     requires { Sound cells.old }
 {
-    let kept = read_all(cells, room, input, output);
+    let kept = read_all(reader, writer, cells, room, input, output);
     if kept == 0 {
         return;
     }
-    let held = answer(cells, room, &input[..kept], output, 0);
-    finish(output, held);
+    let held = answer(writer, cells, room, &input[..kept], output, 0);
+    finish(writer, output, held);
 }
 
-fn main() {
+fn main(rt: HostRuntime) {
     let mut cells = [0; 4096];
     let mut room = [0; 2046];
-    let mut input = io::large_buffer();
-    let mut output = io::large_buffer();
+    let mut input = [0; PIECE];
+    let mut output = [0; PIECE];
     pool::set_up(&mut cells);
-    run(&mut cells, &mut room, &mut input, &mut output);
+    run(
+        &mut rt.stdin(),
+        &mut rt.stdout(),
+        &mut cells,
+        &mut room,
+        &mut input,
+        &mut output,
+    );
 }

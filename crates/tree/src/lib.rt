@@ -57,7 +57,7 @@ fn slot_fine(pool: &[u32], slot: u32, at: Stripe) -> bool
 }
 
 // A son by its own tests, below a slot with the pair p and with so many levels left.
-#[tactic(auto, using(crate::specs::Checked::empty, crate::specs::Checked::leaf, crate::specs::Checked::branch, crate::proofs::Sons::too_deep, crate::proofs::Sons::faulty_slot, crate::proofs::Sons::faulty_order, crate::proofs::Sons::fine_fits))]
+#[tactic(auto, using(crate::specs::Checked::empty, crate::specs::Checked::leaf, crate::specs::Checked::branch, crate::proofs::Sons::bad_deep, crate::proofs::Sons::bad_in_slot, crate::proofs::Sons::bad_in_order, crate::proofs::Sons::fine_fits))]
 fn look_at_son(pool: &[u32], levels: u32, p: Pair, son: u32, at: Stripe) -> Son
     ensures { SonIs pool.now levels p son (stripe_of at) result }
 {
