@@ -5,7 +5,6 @@ use Rattle.strip.proofs.Fitting.{slots_small}
 use Rattle.promises.specs.Promises.{earliest_start}
 use Rattle.promises.proofs.Ways.{slots_refused, slots_pass}
 use Rattle.promises.proofs.Asked.{smallest_y_gives}
-use borrow.Author.Rules.{rules}
 use Rattle.ask.proofs.earliest_start.Goals as goal
 
 pub returns-then-code-ne-DONE : goal.returns-then-code-ne-DONE

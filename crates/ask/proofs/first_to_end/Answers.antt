@@ -5,7 +5,6 @@ use Rattle.strip.proofs.Fitting.{slot_small}
 use Rattle.promises.specs.Promises.{first_to_end}
 use Rattle.promises.proofs.Ways.{slot_refused, slot_passes}
 use Rattle.promises.proofs.Asked.{smallest_x_gives}
-use borrow.Author.Rules.{rules}
 use Rattle.ask.proofs.first_to_end.Goals as goal
 
 pub returns-then-code-ne-DONE : goal.returns-then-code-ne-DONE

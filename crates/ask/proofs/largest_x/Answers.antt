@@ -1,9 +1,9 @@
 -- Backwards limits are refused; else the walk answers. It assumes a sound pool.
 use Rattle.promises.proofs.Ways.{limits_backwards, limits_pass}
 use Rattle.plain.specs.Books.{plain_largest_x}
+use Rattle.plain.specs.Plain.{limits}
 use Rattle.promises.specs.Promises.{largest_x_asked}
 use Rattle.promises.proofs.Asked.{largest_x_gives}
-use borrow.Author.Rules.{rules}
 use Rattle.ask.proofs.largest_x.Goals as goal
 
 pub returns-then-x1-x0 : goal.returns-then-x1-x0
@@ -14,4 +14,4 @@ returns-then-x1-x0 c =
 pub returns : goal.returns
 unfolding largest_x_asked plain_largest_x
 returns c =
-    limits_pass c.args.x0 c.args.x1 c.if-x1-x0.false (largest_x_gives c.requires _ c.largest_x.ensures c.walked.ensures)
+    limits_pass c.args.x0 c.args.x1 c.if-x1-x0.false (largest_x_gives c.requires (limits c.args.x0 c.args.x1 c.args.y1) c.largest_x.ensures c.walked.ensures)

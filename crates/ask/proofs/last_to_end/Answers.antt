@@ -5,7 +5,6 @@ use Rattle.strip.proofs.Fitting.{slots_small}
 use Rattle.promises.specs.Promises.{last_to_end}
 use Rattle.promises.proofs.Ways.{slots_refused, slots_pass}
 use Rattle.promises.proofs.Asked.{largest_x_gives}
-use borrow.Author.Rules.{rules}
 use Rattle.ask.proofs.last_to_end.Goals as goal
 
 pub returns-then-code-ne-DONE : goal.returns-then-code-ne-DONE

@@ -3,7 +3,6 @@ use Rattle.promises.proofs.Ways.{limits_backwards, limits_pass}
 use Rattle.plain.specs.Books.{plain_smallest_y}
 use Rattle.promises.specs.Promises.{smallest_y_asked}
 use Rattle.promises.proofs.Asked.{smallest_y_gives}
-use borrow.Author.Rules.{rules}
 use Rattle.ask.proofs.smallest_y.Goals as goal
 
 pub returns-then-x1-x0 : goal.returns-then-x1-x0
@@ -14,4 +13,4 @@ returns-then-x1-x0 c =
 pub returns : goal.returns
 unfolding smallest_y_asked plain_smallest_y
 returns c =
-    limits_pass c.args.x0 c.args.x1 c.if-x1-x0.false (smallest_y_gives c.requires _ _ c.smallest_y.ensures c.walked.ensures)
+    limits_pass c.args.x0 c.args.x1 c.if-x1-x0.false (smallest_y_gives c.requires c.args.x0 c.args.x1 c.smallest_y.ensures c.walked.ensures)

@@ -2,7 +2,6 @@
 use mathlib.Core.Path.{sym, ◌∙◌}
 use Rattle.strip.proofs.Fitting.{strip_parts_small}
 use Rattle.change.proofs.Changed.{close_refused, close_made}
-use borrow.Author.Rules.{rules}
 use Rattle.change.proofs.close.Goals as goal
 
 pub returns-then-code-ne-DONE : goal.returns-then-code-ne-DONE

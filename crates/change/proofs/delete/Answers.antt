@@ -1,7 +1,6 @@
 -- Each way out is one case of the removal: x was missing, had another y, or the pair was taken out. It assumes a sound pool.
 use mathlib.Core.Path.{ap}
 use Rattle.change.proofs.Changed.{removal_code, delete_ends}
-use borrow.Author.Rules.{rules}
 use Rattle.change.proofs.delete.Goals as goal
 
 pub returns-in-Done : goal.returns-in-Done

@@ -1,7 +1,6 @@
 -- Each way out is one law of Changed.antt: x is stored, no slot is free, or the pair goes down. It assumes a sound pool.
 use native.Mathlib.Omega.{arith}
 use Rattle.change.proofs.Changed.{insert_taken, insert_full, insert_enters, insert_done}
-use borrow.Author.Rules.{rules}
 use Rattle.change.proofs.insert.Goals as goal
 
 pub returns-then-is_stored : goal.returns-then-is_stored

@@ -1,6 +1,5 @@
 -- What the walk lists, the answer says. It assumes a sound pool.
 use Rattle.lend.proofs.Listed.{listing_gives}
-use borrow.Author.Rules.{rules}
 use Rattle.lend.proofs.list.list.Goals as goal
 
 pub returns : goal.returns

@@ -5,7 +5,6 @@ use Rattle.plain.specs.Strips.{plain_contains}
 use Rattle.strip.proofs.Fitting.{slots_small}
 use Rattle.promises.specs.Promises.{listing_asked, list_contains}
 use Rattle.promises.proofs.Ways.{slots_refused, slots_pass}
-use borrow.Author.Rules.{rules}
 use Rattle.lend.proofs.list.list_contains.Goals as goal
 
 pub returns-then-code-ne-DONE : goal.returns-then-code-ne-DONE

@@ -5,7 +5,6 @@ use Rattle.plain.specs.Strips.{plain_covers}
 use Rattle.strip.proofs.Fitting.{slot_small}
 use Rattle.promises.specs.Promises.{listing_asked, list_covers}
 use Rattle.promises.proofs.Ways.{slot_refused, slot_passes}
-use borrow.Author.Rules.{rules}
 use Rattle.lend.proofs.list.list_covers.Goals as goal
 
 pub returns-then-code-ne-DONE : goal.returns-then-code-ne-DONE

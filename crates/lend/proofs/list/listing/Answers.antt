@@ -2,7 +2,6 @@
 use Rattle.promises.proofs.Ways.{limits_backwards, limits_pass}
 use Rattle.plain.specs.Books.{plain_listing}
 use Rattle.promises.specs.Promises.{listing_asked}
-use borrow.Author.Rules.{rules}
 use Rattle.lend.proofs.list.listing.Goals as goal
 
 pub returns-then-x1-x0 : goal.returns-then-x1-x0
