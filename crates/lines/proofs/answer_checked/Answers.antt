@@ -1,8 +1,6 @@
 -- Too few bytes, or what is done and printed. It assumes a sound pool.
 use mathlib.Core.Path.{sym, ◌∙◌}
-use borrow.Author.Tests.{ltb-false}
 use Rattle.lines.proofs.Answering.{short_output, line_done}
-use borrow.Author.Rules.{rules}
 use Rattle.lines.proofs.answer_checked.Goals as goal
 
 pub returns-then-too_short : goal.returns-then-too_short

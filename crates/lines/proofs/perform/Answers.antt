@@ -1,6 +1,5 @@
 -- By what is asked: each kind of line is one law of Answering.antt. It assumes a sound pool, and room for what a line can print.
 use Rattle.lines.proofs.Answering.{open_prints, close_prints, first_prints, last_prints, covers_prints, bad_prints}
-use borrow.Author.Rules.{rules}
 use Rattle.lines.proofs.perform.Goals as goal
 
 pub returns-in-Open : goal.returns-in-Open

@@ -3,7 +3,6 @@ use mathlib.Core.Path.{sym, ◌∙◌}
 use native.Mathlib.Omega.{arith}
 use borrow.Author.Tests.{ltb-false}
 use Rattle.lines.proofs.Answering.{short_output, line_done, refused_prints, refusal_sound}
-use borrow.Author.Rules.{rules}
 use Rattle.script.proofs.answer_line.Goals as goal
 
 pub returns-then-too_short : goal.returns-then-too_short
