@@ -88,6 +88,7 @@ impl Stripe {
     }
 
     // Whether x lies in the stripe.
+    #[tactic(auto, unfolding(crate::specs::Stripe::holds))]
     pub fn holds(self, x: u32) -> bool
         ensures { result ≡ holds (stripe_of self) x }
     {
