@@ -53,6 +53,8 @@ def table():
     for n in sorted(names):
         if re.fullmatch(r"[a-zμ][\w'-]*", n) and snake(n) != n and re.search(r"-|[a-z0-9][A-Z]", n):
             yield n, snake(n)
+        elif re.fullmatch(r"[A-Z][a-z]+(-[a-z]+)+", n):
+            yield n, "".join(part[0].upper() + part[1:] for part in n.split("-"))
 
 
 def turner(rows, path=None):

@@ -11,7 +11,7 @@ const ZERO: u8 = 48;
 const LARGEST_32: u64 = 4294967295;
 
 // Whether a word is a number, and which.
-#[derive(Drop)]
+#[derive(Clone, Copy)]
 pub enum Number {
     Is(u32),
     Not,

@@ -25,7 +25,7 @@ use Rattle.trees.proofs.Standing.{down_stands}
 use Rattle.pools.proofs.Agreement.{same_slot}
 use Rattle.way.specs.Way.{tree_there}
 use Rattle.way.proofs.Links.{link_slot}
-use Rattle.way.proofs.Sides.{fork_on, son_tree, side_of, part_side, inside_slot, level_below, Outside, Well-on, well_on, new_near}
+use Rattle.way.proofs.Sides.{fork_on, son_tree, side_of, part_side, inside_slot, level_below, Outside, WellOn, well_on, new_near}
 use Rattle.way.proofs.Replacing.{Paired, paired_put, there_on, son_distinct, outside_on, son_tree_lem, son_place, replaced_up}
 use Rattle.seat.specs.Seat.{stays, goes_on, Settled, Room, free_taken}
 use Rattle.down.specs.Down.{Going, Carried}
@@ -105,7 +105,7 @@ module _ {c : List ℕ} {k cell : ℕ} {p : Pair} (g : Going c (suc k) cell p) (
   slot_there : tree_there c (suc k) cell ≡ fork_on left s q near far
   slot_there = there_on g.place ne left
 
-  slot_well : Well-on k z.x q near
+  slot_well : WellOn k z.x q near
   slot_well = well_on s q near far k z.x left refl (subst (λ at. Well itself at (fork_on left s q near far)) (sym same_stripe) (rw slot_there at g.well))
 
   near_new : New itself z.x near

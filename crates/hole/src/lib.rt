@@ -7,7 +7,7 @@ ghost use Rattle.hole.specs.Hole.{Hole, Freed, Deletes};
 use kinds::Pair;
 
 // How a deletion ends.
-#[derive(Drop)]
+#[derive(Clone, Copy)]
 pub enum Removal {
     Done,
     // x is not stored.

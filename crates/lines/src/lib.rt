@@ -10,7 +10,7 @@ use kinds::codes;
 use line::Asked;
 
 // How many bytes a line's output has, or that the lent bytes may not hold it.
-#[derive(Drop)]
+#[derive(Clone, Copy)]
 pub enum Told {
     Bytes(usize),
     Short,

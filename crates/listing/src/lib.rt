@@ -15,7 +15,7 @@ use jot::{list_own, room_of};
 use stripes::Stripe;
 
 // What a listing says of itself: how many pairs it wrote, whether a match found no room, and the slots that it visited.
-#[derive(Drop)]
+#[derive(Clone, Copy)]
 pub struct Listing {
     pub count: u32,
     pub more: bool,

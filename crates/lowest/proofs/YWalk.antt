@@ -26,7 +26,7 @@ use Rattle.questions.specs.Walking.{found_at, Some, Walkable, Made}
 use Rattle.questions.proofs.Finding.{not_lt, no_slot, found_none, found_some}
 use Rattle.questions.proofs.Places.{some, there, size_here, asked_left, asked_right}
 use Rattle.questions.proofs.Sons.{none_there, unasked, asked}
-use Rattle.lowest.specs.Sons.{asks, lower_y, Lower, lower_of, Asked-sons}
+use Rattle.lowest.specs.Sons.{asks, lower_y, Lower, lower_of, AskedSons}
 
 -- of two findings
 module _ (c : List ℕ) (l r : ℕ) where
@@ -96,7 +96,7 @@ module _ (s : ℕ) (go b : Bool) (eb : b ≡ asks s go) where
       (λ e. unasked (smallest_y x0 x1 at) (smallest_y_empty x0 x1 at) c k s v go (to_unasked (eqb-false s 0 e) f))
 
 -- the two sons of a slot
-module _ (c : List ℕ) (k l r : ℕ) (at : Stripe) (x0 x1 v : ℕ) (o : Asked-sons c k l r at v) (gl : Bool) (egl : gl ≡ ltb x0 (middle at))
+module _ (c : List ℕ) (k l r : ℕ) (at : Stripe) (x0 x1 v : ℕ) (o : AskedSons c k l r at v) (gl : Bool) (egl : gl ≡ ltb x0 (middle at))
     (bl : Bool) (ebl : bl ≡ asks l gl) (gr : Bool) (egr : gr ≡ ltb x1 (middle at)) (br : Bool) (ebr : br ≡ asks r (not gr)) where
   abbrev L : Walked
   L = ask (ltb x0 (middle at)) (smallest_y x0 x1 (left_part at) (tree_at c k l))
@@ -159,7 +159,7 @@ module _ (c : List ℕ) (k l r : ℕ) (at : Stripe) (x0 x1 v : ℕ) (o : Asked-s
 
 -- a slot
 module _ (c : List ℕ) (k s : ℕ) (at : Stripe) (v : ℕ) (one : 1 ≤ s) (o : Walkable c (suc k) s at v) where
-  pub sons_asked : (l r : ℕ) → l ≡ left_at c s → r ≡ right_at c s → Asked-sons c k l r at (v + 1)
+  pub sons_asked : (l r : ℕ) → l ≡ left_at c s → r ≡ right_at c s → AskedSons c k l r at (v + 1)
   sons_asked l r el er =
       let a = asked_left c k s at v one o l (v + 1) (left_part at) el refl (omega arith) in
       let b = asked_right c k s at v one o r (v + 1) (right_part at) er refl (omega arith) in

@@ -29,7 +29,7 @@ abbrev pub lower_of : Walked → Walked → Walked
 lower_of a b = seen (closest lower_y a.finding b.finding) (a.visits + b.visits)
 
 -- what the sons of a slot may rely on, asked one after the other
-pub record Asked-sons (c : List ℕ) (k l r : ℕ) (at : Stripe) (v : ℕ) : Type 0 where
+pub record AskedSons (c : List ℕ) (k l r : ℕ) (at : Stripe) (v : ℕ) : Type 0 where
   pub left : Leads c l (tree_at c k l)
   pub right : Leads c r (tree_at c k r)
   pub low : Low at

@@ -8,7 +8,7 @@ ghost use Rattle.pools.specs.Sound.{Sound};
 ghost use Rattle.stripes.specs.Stripe.{all_levels, root_stripe, middle, left_part, right_part};
 ghost use Rattle.walks.specs.Walks.{smallest_y, ask};
 ghost use Rattle.questions.specs.Walking.{Some, Walkable, Made};
-ghost use Rattle.lowest.specs.Sons.{Lower, asks, lower_of, Asked-sons};
+ghost use Rattle.lowest.specs.Sons.{Lower, asks, lower_of, AskedSons};
 
 use kinds::{Finding, Walked};
 use questions::{found_at, in_range};
@@ -80,7 +80,7 @@ fn better_son(
     x1: u32,
     visits: &mut u32,
 ) -> u32
-    requires { Asked-sons pool.now levels left right (stripe_of at) visits.old }
+    requires { AskedSons pool.now levels left right (stripe_of at) visits.old }
     ensures { Made pool.now visits.old (lower_of (ask (ltb x0 (middle (stripe_of at))) (smallest_y x0 x1 (left_part (stripe_of at)) (tree_at pool.now levels left))) (ask (leb (middle (stripe_of at)) x1) (smallest_y x0 x1 (right_part (stripe_of at)) (tree_at pool.now levels right)))) result visits.new }
 {
     let to_left = asks(left, at.goes_left(x0));

@@ -120,7 +120,7 @@ pub record Pretends (K : Kind) (g : Program) : Type 0 where
   pub kind : kind_of call ≡ K
   pub differs : g before cells call ≢ g 0 cells call
 
--- made_up visits: some call that is not refused reports others than the walk's
+-- made-up visits: some call that is not refused reports others than the walk's
 pub record MadeUp (K : Kind) (g : Program) : Type 0 where
   pub before : ℕ
   pub cells : List ℕ

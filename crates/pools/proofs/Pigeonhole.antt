@@ -57,11 +57,11 @@ module _ (x : ℕ) where
       on (eqb a x) (λ e. let D : Differs x l = rw (← eqb-true a x e) d.0 in rw e (omega (arith, without_none l D))) (λ e. rw e (omega arith))
 
 -- all are from 1 to n
-abbrev pub From-one : ℕ → List ℕ → Type 0
-From-one n l = (a : ℕ) → Memᴰ a l → (1 ≤ a) × (a ≤ n)
+abbrev pub FromOne : ℕ → List ℕ → Type 0
+FromOne n l = (a : ℕ) → Memᴰ a l → (1 ≤ a) × (a ≤ n)
 
 -- law: different numbers from 1 to n are n at most
-pub at_most : (n : ℕ) (l : List ℕ) → Apart l → From-one n l → length l ≤ n
+pub at_most : (n : ℕ) (l : List ℕ) → Apart l → FromOne n l → length l ≤ n
 at_most zero [] d h = omega arith
 at_most zero (a ∷ l) d h = let k = h a (mathlib.Core.List.Memᴰ.head refl) in absurd (omega (arith, k.0, k.1))
 at_most (suc n) l d h =
@@ -70,7 +70,7 @@ at_most (suc n) l d h =
     omega (arith, without_length (suc n) l d)
 
 -- law: where they are n, every one is there
-pub all_there : (n : ℕ) (l : List ℕ) → Apart l → From-one n l → length l ≡ n → (s : ℕ) → 1 ≤ s → s ≤ n → Memᴰ s l
+pub all_there : (n : ℕ) (l : List ℕ) → Apart l → FromOne n l → length l ≡ n → (s : ℕ) → 1 ≤ s → s ≤ n → Memᴰ s l
 all_there n l d h e s a b = ⊎_elim (λ m. m)
     (λ f. absurd (omega (arith, at_most n (s ∷ l) (differs_not s l f, d) (λ x m. ⊎_elim (λ z. (omega arith, omega arith)) (λ k. h x k) (mathlib.Core.List.Memᴰ.cases_cons m)))))
     (member_or_not s l)

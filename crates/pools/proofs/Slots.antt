@@ -17,7 +17,7 @@ use Rattle.trees.proofs.Trees.{all_at, well_in}
 use Rattle.pools.proofs.Decided.{sound_well}
 use Rattle.pools.proofs.Agreement.{leads_reads, leads_slot}
 use Rattle.plain.proofs.Apart.{differs_not, apart_join}
-use Rattle.pools.proofs.Pigeonhole.{From-one, all_there}
+use Rattle.pools.proofs.Pigeonhole.{FromOne, all_there}
 
 -- a tree's slots as a list
 module _ {A : Type 0} where
@@ -140,7 +140,7 @@ module _ {c : List ℕ} (s : Sound c) where
   pub slots_apart : Apart (slots s.tree ++ s.free)
   slots_apart = apart_join (slots s.tree) s.free (distinct_apart s.tree sound_distinct) (chain_apart s.chain) (λ u m k. not_both (list_stands s.tree m) k)
 
-  slots_some : From-one (slots_of c) (slots s.tree ++ s.free)
+  slots_some : FromOne (slots_of c) (slots s.tree ++ s.free)
   slots_some u m = ⊎_elim (λ k. let o = tree_slot (list_stands s.tree k) in (o.some, o.most)) (λ k. let o = free_slot k in (o.some, o.most))
       (Memᴰ.append_cases (slots s.tree) m)
 

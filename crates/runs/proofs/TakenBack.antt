@@ -202,6 +202,31 @@ close_back c n t =
     let d = open_passed (delete_gives c (pair_of n)).cells n f in
     rw e (record { cells = rw d i.0; taken = rw d i.1 })
 
+-- whether taking back counts from a call
+abbrev is_anew : Reversal → Bool
+is_anew (by k) = false
+is_anew needless = false
+is_anew anew = true
+
+not_anew : (k : Call) (a : Answer) → k ≢ set_up → reverse k a ≢ anew
+not_anew set_up a d e = d refl
+not_anew check a d e = clash (ap is_anew e) refl
+not_anew (insert p) a d e = clash (ap is_anew e) refl
+not_anew (delete p) a d e = clash (ap is_anew e) refl
+not_anew (smallest_x q) a d e = clash (ap is_anew e) refl
+not_anew (largest_x q) a d e = clash (ap is_anew e) refl
+not_anew (smallest_y x0 x1) a d e = clash (ap is_anew e) refl
+not_anew (list q out) a d e = clash (ap is_anew e) refl
+not_anew (opens n) a d e = clash (ap is_anew e) refl
+not_anew (closes n) a d e = clash (ap is_anew e) refl
+not_anew (first u) a d e = clash (ap is_anew e) refl
+not_anew (last u e) a d f = clash (ap is_anew f) refl
+not_anew (earliest u v) a d e = clash (ap is_anew e) refl
+not_anew (covers u out) a d e = clash (ap is_anew e) refl
+not_anew (meets u v out) a d e = clash (ap is_anew e) refl
+not_anew (contains u v out) a d e = clash (ap is_anew e) refl
+not_anew (save bytes) a d e = clash (ap is_anew e) refl
+
 -- one accepted call
 back : (c : List ℕ) (k : Call) → SmallX k → accepted (play c k) ≡ true → After c (play c k) (reverse k (play c k).answer)
 unfolding promised
@@ -294,31 +319,6 @@ all_did (k ∷ ks) c b = (does c k b.0, stay c k, all_did ks (play c k).cells b.
 pub taken_back : (ks : List Call) (c : List ℕ) → Each SmallX ks → TakenBack ks c
 unfolding take_back
 taken_back ks c b = record { did = all_did ks c b; returned = can_run ks (from c) b refl }
-
--- whether taking back counts from a call
-abbrev is_anew : Reversal → Bool
-is_anew (by k) = false
-is_anew needless = false
-is_anew anew = true
-
-not_anew : (k : Call) (a : Answer) → k ≢ set_up → reverse k a ≢ anew
-not_anew set_up a d e = d refl
-not_anew check a d e = clash (ap is_anew e) refl
-not_anew (insert p) a d e = clash (ap is_anew e) refl
-not_anew (delete p) a d e = clash (ap is_anew e) refl
-not_anew (smallest_x q) a d e = clash (ap is_anew e) refl
-not_anew (largest_x q) a d e = clash (ap is_anew e) refl
-not_anew (smallest_y x0 x1) a d e = clash (ap is_anew e) refl
-not_anew (list q out) a d e = clash (ap is_anew e) refl
-not_anew (opens n) a d e = clash (ap is_anew e) refl
-not_anew (closes n) a d e = clash (ap is_anew e) refl
-not_anew (first u) a d e = clash (ap is_anew e) refl
-not_anew (last u e) a d f = clash (ap is_anew f) refl
-not_anew (earliest u v) a d e = clash (ap is_anew e) refl
-not_anew (covers u out) a d e = clash (ap is_anew e) refl
-not_anew (meets u v out) a d e = clash (ap is_anew e) refl
-not_anew (contains u v out) a d e = clash (ap is_anew e) refl
-not_anew (save bytes) a d e = clash (ap is_anew e) refl
 
 -- law: where nothing is set up anew, taking back counts from the start
 pub since_from_start : (ks : List Call) (r : Ran) → Each (λ k. k ≢ set_up) ks → (run ks r).since ≡ r.since

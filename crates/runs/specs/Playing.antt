@@ -45,7 +45,7 @@ Wrote (values vs) out out' = out' ≡ vs ++ drop (length vs) out
 Wrote (listing ps) out out' = InSomeOrder ps out out'
 
 -- a call ends alike over cells and over a plain list: its outcome, and what it writes
-pub record Alike-end (k : Call) (w : Result) (e : Kept) : Type 0 where
+pub record AlikeEnd (k : Call) (w : Result) (e : Kept) : Type 0 where
   pub outcome : w.answer.outcome ≡ e.outcome
   pub wrote : Wrote e.writing (lent_by k) w.lent
 
@@ -81,15 +81,15 @@ plainly_all (k ∷ ks) b =
     record { ends = e ∷ t.ends; book = t.book }
 
 -- each call ends alike over both
-abbrev pub All-alike : List Call → List Result → List Kept → Type 0
-All-alike [] [] [] = Unit {0}
-All-alike (k ∷ ks) (w ∷ ws) (e ∷ es) = Alike-end k w e × All-alike ks ws es
-All-alike [] (w ∷ ws) es = ⊥
-All-alike [] [] (e ∷ es) = ⊥
-All-alike (k ∷ ks) [] es = ⊥
-All-alike (k ∷ ks) (w ∷ ws) [] = ⊥
+abbrev pub AllAlike : List Call → List Result → List Kept → Type 0
+AllAlike [] [] [] = Unit {0}
+AllAlike (k ∷ ks) (w ∷ ws) (e ∷ es) = AlikeEnd k w e × AllAlike ks ws es
+AllAlike [] (w ∷ ws) es = ⊥
+AllAlike [] [] (e ∷ es) = ⊥
+AllAlike (k ∷ ks) [] es = ⊥
+AllAlike (k ∷ ks) (w ∷ ws) [] = ⊥
 
 -- a run ends alike over both, call by call, and leaves them the same
 pub record Agrees (ks : List Call) (r : Run) (t : PlainRun) : Type 0 where
-  pub each : All-alike ks r.results t.ends
+  pub each : AllAlike ks r.results t.ends
   pub same : Same r.cells t.book

@@ -16,14 +16,14 @@ use kinds::Pair;
 use stripes::Stripe;
 
 // The slots from a place down, or that one is faulty.
-#[derive(Drop)]
+#[derive(Clone, Copy)]
 pub enum Checked {
     Counted(u64),
     Faulty,
 }
 
 // What a son is found to be: no slot, one without sons, one with sons, or a fault.
-#[derive(Drop)]
+#[derive(Clone, Copy)]
 pub enum Son {
     Empty,
     Leaf,

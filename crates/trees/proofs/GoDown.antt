@@ -10,7 +10,7 @@ use borrow.Author.Tests.{ltb-true, ltb-false, lt-ltb, le-ltb}
 use Rattle.kinds.specs.declared.Pair.{Pair}
 use Rattle.kinds.specs.Pairs.{Beats, beats}
 use Rattle.stripes.specs.Stripe.{Stripe, In, middle, left_part, right_part}
-use Rattle.trees.specs.Tree.{Tree, none, fork, All, Mem, Under, Well-fork, Well}
+use Rattle.trees.specs.Tree.{Tree, none, fork, All, Mem, Under, WellFork, Well}
 use Rattle.trees.specs.Standing.{New}
 use Rattle.trees.specs.Changes.{go_down}
 use Rattle.kinds.proofs.Tests.{on}
@@ -44,7 +44,7 @@ module _ {A : Type 0} (key : A → Pair) where
     pub new_left : New key (key z).x l
     pub new_right : New key (key z).x r
 
-  pub step : {s : Stripe} {p q w z : A} {l r : Tree A} {L R : Type 0} → Sorted p q w z → Well-fork key s q l r L R
+  pub step : {s : Stripe} {p q w z : A} {l r : Tree A} {L R : Type 0} → Sorted p q w z → WellFork key s q l r L R
       → In s (key p).x → (key p).x ≢ (key q).x → New key (key p).x l → New key (key p).x r → StepDown s w z l r
   step {q = q} {l = l} {r = r} (swap b) f i e el er = record {
     under = record { beaten = b; apart = e };

@@ -6,25 +6,25 @@ use native.Mathlib.Omega.{arith}
 use Rattle.kinds.specs.declared.Pair.{Pair}
 use Rattle.kinds.specs.Pairs.{Beats}
 use Rattle.stripes.specs.Stripe.{Stripe, In, middle, left_part, right_part}
-use Rattle.trees.specs.Tree.{Tree, none, fork, bare, All, Mem, here, in_left, in_right, Under, Well-fork, Well}
+use Rattle.trees.specs.Tree.{Tree, none, fork, bare, All, Mem, here, in_left, in_right, Under, WellFork, Well}
 use Rattle.kinds.proofs.Order.{beats_asym}
 use Rattle.trees.proofs.Trees.{all_map, all_and, all_at, all_mem, well_in}
 
 module _ {A : Type 0} (key : A → Pair) where
   module _ {s : Stripe} {i : ℕ} {p q : A} {l r : Tree A} where
-    pub mem_top : Well-fork key s p l r (Well key (left_part s) l) (Well key (right_part s) r) → Mem q (fork i p l r) → (q ≡ p) ⊎ Beats (key p) (key q)
+    pub mem_top : WellFork key s p l r (Well key (left_part s) l) (Well key (right_part s) r) → Mem q (fork i p l r) → (q ≡ p) ⊎ Beats (key p) (key q)
     mem_top f (here e) = inl e
     mem_top f (in_left m) = inr (all_at _ f.over_left m).beaten
     mem_top f (in_right m) = inr (all_at _ f.over_right m).beaten
 
     -- a member of a half's stripe that is not the top is a member of that half
-    pub mem_left : Well-fork key s p l r (Well key (left_part s) l) (Well key (right_part s) r) → (key p).x ≢ (key q).x → (key q).x < middle s
+    pub mem_left : WellFork key s p l r (Well key (left_part s) l) (Well key (right_part s) r) → (key p).x ≢ (key q).x → (key q).x < middle s
         → Mem q (fork i p l r) → Mem q l
     mem_left f d h (here e) = absurd (d (ap (λ q. (key q).x) (sym e)))
     mem_left f d h (in_left m) = m
     mem_left f d h (in_right m) = let j = all_at _ (well_in key (right_part s) r f.right) m in absurd (omega arith)
 
-    pub mem_right : Well-fork key s p l r (Well key (left_part s) l) (Well key (right_part s) r) → (key p).x ≢ (key q).x → middle s ≤ (key q).x
+    pub mem_right : WellFork key s p l r (Well key (left_part s) l) (Well key (right_part s) r) → (key p).x ≢ (key q).x → middle s ≤ (key q).x
         → Mem q (fork i p l r) → Mem q r
     mem_right f d h (here e) = absurd (d (ap (λ q. (key q).x) (sym e)))
     mem_right f d h (in_left m) = let j = all_at _ (well_in key (left_part s) l f.left) m in absurd (omega arith)

@@ -15,7 +15,7 @@ pub data Stands {A : Type 0} (u : ℕ) : Tree A → Type 0 where
   at_right : {s : ℕ} {p : A} {l r : Tree A} → Stands u r → Stands u (fork s p l r)
 
 -- a slot whose number stands nowhere below it, over its sons' trees, which have no slot in common
-pub record Distinct-fork {A : Type 0} (s : ℕ) (l r : Tree A) (L R : Type 0) : Type 0 where
+pub record DistinctFork {A : Type 0} (s : ℕ) (l r : Tree A) (L R : Type 0) : Type 0 where
   pub not_left : Stands s l → ⊥
   pub not_right : Stands s r → ⊥
   pub across : (u : ℕ) → Stands u l → Stands u r → ⊥
@@ -25,7 +25,7 @@ pub record Distinct-fork {A : Type 0} (s : ℕ) (l r : Tree A) (L R : Type 0) : 
 -- no slot stands twice
 abbrev pub Distinct : {A : Type 0} → Tree A → Type 0
 Distinct none = Unit {0}
-Distinct (fork s p l r) = Distinct-fork s l r (Distinct l) (Distinct r)
+Distinct (fork s p l r) = DistinctFork s l r (Distinct l) (Distinct r)
 
 -- no slot holds this x
 abbrev pub New : {A : Type 0} → (A → Pair) → ℕ → Tree A → Type 0

@@ -70,7 +70,7 @@ pub record Under (p q : Pair) : Type 0 where
   pub apart : p.x ≢ q.x
 
 -- a slot of a well-formed tree, over its sons' trees
-pub record Well-fork {A : Type 0} (key : A → Pair) (s : Stripe) (p : A) (l r : Tree A) (L R : Type 0) : Type 0 where
+pub record WellFork {A : Type 0} (key : A → Pair) (s : Stripe) (p : A) (l r : Tree A) (L R : Type 0) : Type 0 where
   pub inside : In s (key p).x
   pub over_left : All (λ q. Under (key p) (key q)) l
   pub over_right : All (λ q. Under (key p) (key q)) r
@@ -80,4 +80,4 @@ pub record Well-fork {A : Type 0} (key : A → Pair) (s : Stripe) (p : A) (l r :
 -- a well-formed tree in a stripe: each x lies in its slot's stripe, and each slot stands over all that is below it
 abbrev pub Well : {A : Type 0} → (A → Pair) → Stripe → Tree A → Type 0
 Well key s none = Unit {0}
-Well key s (fork i p l r) = Well-fork key s p l r (Well key (left_part s) l) (Well key (right_part s) r)
+Well key s (fork i p l r) = WellFork key s p l r (Well key (left_part s) l) (Well key (right_part s) r)

@@ -18,24 +18,24 @@ use Rattle.kinds.proofs.Tests.{on}
 pub record Upto (k : ℕ) (w : Walked) : Type 0 where
   pub visits : w.visits ≤ k
 
-record List-upto (k : ℕ) (a : ListWalked) : Type 0 where
+record ListUpto (k : ℕ) (a : ListWalked) : Type 0 where
   visits : a.visits ≤ k
 
 pub upto_ask : (c : Bool) (w : Walked) {k : ℕ} → (c ≡ true → Upto k w) → Upto k (ask c w)
 upto_ask true w h = h refl
 upto_ask false w h = record { visits = omega arith }
 
-upto_then : (a b : ListWalked) {j k : ℕ} → List-upto j a → List-upto k b → List-upto (j + k) (and_then a b)
+upto_then : (a b : ListWalked) {j k : ℕ} → ListUpto j a → ListUpto k b → ListUpto (j + k) (and_then a b)
 upto_then a b h e = on a.more (λ t. rw t (record { visits = omega arith })) (λ t. rw t (record { visits = omega arith }))
 
-upto_more : {a : ListWalked} {j k : ℕ} → j ≤ k → List-upto j a → List-upto k a
+upto_more : {a : ListWalked} {j k : ℕ} → j ≤ k → ListUpto j a → ListUpto k a
 upto_more h e = record { visits = omega arith }
 
-upto_asked : (c : Bool) (a : ListWalked) {k : ℕ} → List-upto k a → List-upto k (cond c a (list_walked [] false 0))
+upto_asked : (c : Bool) (a : ListWalked) {k : ℕ} → ListUpto k a → ListUpto k (cond c a (list_walked [] false 0))
 upto_asked true a h = h
 upto_asked false a h = record { visits = omega arith }
 
-upto_own : (c : Bool) (room : ℕ) (p : Pair) → List-upto 1 (list_own c room p)
+upto_own : (c : Bool) (room : ℕ) (p : Pair) → ListUpto 1 (list_own c room p)
 upto_own false room p = record { visits = omega arith }
 upto_own true zero p = record { visits = omega arith }
 upto_own true (suc room) p = record { visits = omega arith }
@@ -48,7 +48,7 @@ smallest_y_upto x0 x1 s (fork i p l r) =
     let b = upto_ask (leb (middle s) x1) _ (λ _. smallest_y_upto x0 x1 (right_part s) r) in
     on (in_range x0 x1 p) (λ e. rw e (record { visits = omega arith })) (λ e. rw e (record { visits = omega arith }))
 
-listing_upto : (q : Limits) (s : Stripe) (t : Tree Pair) (room : ℕ) → List-upto (size t) (listing q s t room)
+listing_upto : (q : Limits) (s : Stripe) (t : Tree Pair) (room : ℕ) → ListUpto (size t) (listing q s t room)
 unfolding listing
 listing_upto q s none room = record { visits = omega arith }
 listing_upto q s (fork i p l r) room = on (ltb q.y1 p.y) (λ e. rw e (record { visits = omega arith }))

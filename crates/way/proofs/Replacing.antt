@@ -9,7 +9,7 @@ use native.Mathlib.Omega.{arith}
 use lib.ListN.{length, get_or}
 use Rattle.kinds.specs.declared.Pair.{Pair}
 use Rattle.trees.specs.Tree.{Tree}
-use Rattle.trees.specs.Standing.{Stands, Distinct-fork, Distinct}
+use Rattle.trees.specs.Standing.{Stands, DistinctFork, Distinct}
 use Rattle.pools.specs.Cells.{per_slot, pair_at, put_pair}
 use Rattle.pools.specs.Links.{Fits, son_at, link_cell}
 use Rattle.pools.specs.Sound.{Leads}
@@ -18,7 +18,7 @@ use Rattle.pools.proofs.Leads.{tree_within, leads_tree}
 use Rattle.pools.proofs.Agreement.{Agree, agree_same, same_slot, slot_fits, leads_frame, leads_slot, leads_top, WroteSlot, pair_wrote, pair_read, pair_left, pair_right}
 use Rattle.way.specs.Way.{tree_there, Place, Replaced}
 use Rattle.way.proofs.Links.{link_slot, link_low, link_inside, link_other, agree_cells, agree_get}
-use Rattle.way.proofs.Sides.{fork_on, son_tree, tree_on, Outside, outside, distinct_on, Reads-on, reads_on, on_reads}
+use Rattle.way.proofs.Sides.{fork_on, son_tree, tree_on, Outside, outside, distinct_on, ReadsOn, reads_on, on_reads}
 
 -- c' is c, with the pair q in slot s
 pub record Paired (c : List ℕ) (s : ℕ) (q : Pair) (c' : List ℕ) : Type 0 where
@@ -52,10 +52,10 @@ module _ {c : List ℕ} {k cell : ℕ} (o : Place c (suc k) cell) (ne : get_or c
   pub there_on : tree_there c (suc k) cell ≡ fork_on left s (pair_at c s) near far
   there_on = tree_on c (suc k) s left ne
 
-  pub son_reads : Reads-on c s near far left
+  pub son_reads : ReadsOn c s near far left
   son_reads = reads_on s (pair_at c s) near far left (rw there_on at o.leads)
 
-  pub son_distinct : Distinct-fork s near far (Distinct near) (Distinct far)
+  pub son_distinct : DistinctFork s near far (Distinct near) (Distinct far)
   son_distinct = distinct_on s (pair_at c s) near far left (rw there_on at o.distinct)
 
   pub outside_on : {i : ℕ} → (Stands i (tree_there c (suc k) cell) → ⊥) → Outside i s near far

@@ -11,7 +11,7 @@ use Rattle.kinds.specs.declared.Pair.{Pair}
 use Rattle.stripes.specs.Stripe.{Stripe, In, middle, left_part, right_part}
 use Rattle.stripes.specs.Heights.{part_of, stripe_at}
 use Rattle.trees.specs.Tree.{Tree, fork, All, Mem, in_left, in_right, Under, Well, itself}
-use Rattle.trees.specs.Standing.{Stands, at_top, at_left, at_right, Distinct-fork, Distinct, New}
+use Rattle.trees.specs.Standing.{Stands, at_top, at_left, at_right, DistinctFork, Distinct, New}
 use Rattle.trees.specs.Changes.{met}
 use Rattle.pools.specs.Cells.{pair_at, tree_at}
 use Rattle.pools.specs.Links.{son_at, link_cell}
@@ -50,7 +50,7 @@ pub record Outside (i s : ℕ) (u v : Tree Pair) : Type 0 where
   pub far : Stands i v → ⊥
 
 -- the links of a slot in the cells lead to its trees
-pub record Reads-on (c : List ℕ) (s : ℕ) (u v : Tree Pair) (left : Bool) : Type 0 where
+pub record ReadsOn (c : List ℕ) (s : ℕ) (u v : Tree Pair) (left : Bool) : Type 0 where
   pub slot : Slot c s
   pub near : Leads c (get_or c (link_cell s left) 0) u
   pub far : Leads c (get_or c (link_cell s (not left)) 0) v
@@ -65,7 +65,7 @@ unfolding part_of
 part_side k x left e = rw e at (part_at k x)
 
 -- a slot of a well-formed tree: its pair may stand over the near tree, which is well formed in the son's stripe
-pub record Well-on (k x : ℕ) (p : Pair) (u : Tree Pair) : Type 0 where
+pub record WellOn (k x : ℕ) (p : Pair) (u : Tree Pair) : Type 0 where
   pub over : All (λ q. Under p q) u
   pub near : Well itself (stripe_at k x) u
 
@@ -76,13 +76,13 @@ module _ (s : ℕ) (p : Pair) (near far : Tree Pair) where
   outside true n = record { top = λ e. n (at_top e); near = λ m. n (at_left m); far = λ m. n (at_right m) }
   outside false n = record { top = λ e. n (at_top e); near = λ m. n (at_right m); far = λ m. n (at_left m) }
 
-  pub distinct_on : (left : Bool) → Distinct (fork_on left s p near far) → Distinct-fork s near far (Distinct near) (Distinct far)
+  pub distinct_on : (left : Bool) → Distinct (fork_on left s p near far) → DistinctFork s near far (Distinct near) (Distinct far)
   unfolding fork_on
   distinct_on true d = d
   distinct_on false d = record { not_left = d.not_right; not_right = d.not_left; across = λ i a b. d.across i b a; left = d.right; right = d.left }
 
   -- law: its links
-  pub reads_on : {c : List ℕ} {i : ℕ} (left : Bool) → Leads c i (fork_on left s p near far) → Reads-on c s near far left
+  pub reads_on : {c : List ℕ} {i : ℕ} (left : Bool) → Leads c i (fork_on left s p near far) → ReadsOn c s near far left
   unfolding fork_on link_cell
   reads_on true h = let k = leads_reads h in record { slot = k.slot; near = k.left; far = k.right }
   reads_on false h = let k = leads_reads h in record { slot = k.slot; near = k.right; far = k.left }
@@ -107,7 +107,7 @@ module _ (s : ℕ) (p : Pair) (near far : Tree Pair) where
   -- seen from the side on which x lies
   module _ (k x : ℕ) where
     -- law: its stripe
-    pub well_on : (left : Bool) → side_of (suc k) x ≡ left → Well itself (stripe_at (suc k) x) (fork_on left s p near far) → Well-on k x p near
+    pub well_on : (left : Bool) → side_of (suc k) x ≡ left → Well itself (stripe_at (suc k) x) (fork_on left s p near far) → WellOn k x p near
     unfolding fork_on
     well_on true e w = record { over = w.over_left; near = subst (λ at. Well itself at near) (part_side k x true e) w.left }
     well_on false e w = record { over = w.over_right; near = subst (λ at. Well itself at near) (part_side k x false e) w.right }

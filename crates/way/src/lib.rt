@@ -7,7 +7,7 @@ ghost use Rattle.way.specs.Way.{WayEnds};
 use stripes::Stripe;
 
 // Where a way ends: the cell of the link there, and the levels below it.
-#[derive(Drop)]
+#[derive(Clone, Copy)]
 pub struct End {
     pub cell: usize,
     pub levels: u32,
