@@ -1,81 +1,65 @@
-// The questions for one pair, and for one strip.
+// The questions for one pair, and for one strip: each another walk, under another promise.
 #![tactic(auto)]
 
+ghost use Rattle.kinds.specs.Answer.{walked};
 ghost use Rattle.kinds.specs.Promise.{Answers};
-ghost use Rattle.plain.specs.Plain.{limits};
-ghost use Rattle.pools.specs.Sound.{Sound};
 ghost use Rattle.promises.specs.Promises.{smallest_x_asked, largest_x_asked, smallest_y_asked, first_to_end, last_to_end, earliest_start};
 
-use kinds::{Answer, codes};
+use cells::SoundPool;
+use kinds::{Limits, Refusal, Walked};
+use strip::{Slot, Slots};
 
-// Of the pairs with x0 ≤ x ≤ x1 and y ≤ y1, the one with the smallest x.
-pub fn smallest_x(pool: &[u32], x0: u32, x1: u32, y1: u32) -> Answer
-    requires { Sound pool.now }
-    ensures { Answers (smallest_x_asked pool.now (limits x0 x1 y1)) pool.now result }
+// Of the pairs in the limits, the one with the smallest x.
+pub fn smallest_x(pool: SoundPool<'_>, q: Limits) -> Result<Walked, Refusal>
+    ensures { Answers (smallest_x_asked pool.entry.cells.now q) pool.entry.cells.now (walked result) }
 {
-    if x1 < x0 {
-        return Answer::refused(codes::BACKWARDS);
+    if q.x1 < q.x0 {
+        return Err(Refusal::Backwards);
     }
-    Answer::walked(leftmost::smallest_x(pool, x0, x1, y1))
+    Ok(outmost::smallest_x(pool, q))
 }
 
-// Of the pairs with x0 ≤ x ≤ x1 and y ≤ y1, the one with the largest x.
-pub fn largest_x(pool: &[u32], x0: u32, x1: u32, y1: u32) -> Answer
-    requires { Sound pool.now }
-    ensures { Answers (largest_x_asked pool.now (limits x0 x1 y1)) pool.now result }
+// Of the pairs in the limits, the one with the largest x.
+pub fn largest_x(pool: SoundPool<'_>, q: Limits) -> Result<Walked, Refusal>
+    ensures { Answers (largest_x_asked pool.entry.cells.now q) pool.entry.cells.now (walked result) }
 {
-    if x1 < x0 {
-        return Answer::refused(codes::BACKWARDS);
+    if q.x1 < q.x0 {
+        return Err(Refusal::Backwards);
     }
-    Answer::walked(rightmost::largest_x(pool, x0, x1, y1))
+    Ok(outmost::largest_x(pool, q))
 }
 
 // Of the pairs with x0 ≤ x ≤ x1, the one with the smallest y; on equal y the one with the smaller x.
-pub fn smallest_y(pool: &[u32], x0: u32, x1: u32) -> Answer
-    requires { Sound pool.now }
-    ensures { Answers (smallest_y_asked pool.now x0 x1) pool.now result }
+pub fn smallest_y(pool: SoundPool<'_>, x0: u32, x1: u32) -> Result<Walked, Refusal>
+    ensures { Answers (smallest_y_asked pool.entry.cells.now x0 x1) pool.entry.cells.now (walked result) }
 {
     if x1 < x0 {
-        return Answer::refused(codes::BACKWARDS);
+        return Err(Refusal::Backwards);
     }
-    Answer::walked(lowest::smallest_y(pool, x0, x1))
+    Ok(lowest::smallest_y(pool, x0, x1))
 }
 
 // The strip that covers slot u and ends first.
-pub fn first_to_end(pool: &[u32], u: u32) -> Answer
-    requires { Sound pool.now }
-    ensures { Answers (first_to_end pool.now u) pool.now result }
+pub fn first_to_end(pool: SoundPool<'_>, u: u32) -> Result<Walked, Refusal>
+    ensures { Answers (first_to_end pool.entry.cells.now u) pool.entry.cells.now (walked result) }
 {
-    let code = strip::slot_code(u);
-    if code != codes::DONE {
-        return Answer::refused(code);
-    }
-    let q = strip::covers(u);
-    Answer::walked(leftmost::smallest_x(pool, q.x0, q.x1, q.y1))
+    let slot = Slot::new(u)?;
+    Ok(outmost::smallest_x(pool, slot.covers()))
 }
 
 // The strip that covers slot u and ends last, no later than e.
-pub fn last_to_end(pool: &[u32], u: u32, e: u32) -> Answer
-    requires { Sound pool.now }
-    ensures { Answers (last_to_end pool.now u e) pool.now result }
+pub fn last_to_end(pool: SoundPool<'_>, u: u32, e: u32) -> Result<Walked, Refusal>
+    ensures { Answers (last_to_end pool.entry.cells.now u e) pool.entry.cells.now (walked result) }
 {
-    let code = strip::slots_code(u, e);
-    if code != codes::DONE {
-        return Answer::refused(code);
-    }
-    let q = strip::last(u, e);
-    Answer::walked(rightmost::largest_x(pool, q.x0, q.x1, q.y1))
+    let slots = Slots::new(u, e)?;
+    Ok(outmost::largest_x(pool, slots.last()))
 }
 
 // Of the strips that end in u..v, the one with the earliest start.
-pub fn earliest_start(pool: &[u32], u: u32, v: u32) -> Answer
-    requires { Sound pool.now }
-    ensures { Answers (earliest_start pool.now u v) pool.now result }
+pub fn earliest_start(pool: SoundPool<'_>, u: u32, v: u32) -> Result<Walked, Refusal>
+    ensures { Answers (earliest_start pool.entry.cells.now u v) pool.entry.cells.now (walked result) }
 {
-    let code = strip::slots_code(u, v);
-    if code != codes::DONE {
-        return Answer::refused(code);
-    }
-    let q = strip::last(u, v);
-    Answer::walked(lowest::smallest_y(pool, q.x0, q.x1))
+    let slots = Slots::new(u, v)?;
+    let q = slots.last();
+    Ok(lowest::smallest_y(pool, q.x0, q.x1))
 }

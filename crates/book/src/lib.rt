@@ -1,19 +1,17 @@
 // The stored book: the check, and then the book of the checked pool.
 #![tactic(auto)]
 
+ghost use Rattle.kinds.specs.Answer.{ended};
 ghost use Rattle.kinds.specs.Promise.{Writes};
 ghost use Rattle.sound.specs.Promises.{behind_check};
 ghost use Rattle.promises.specs.Promises.{saved};
 
-use kinds::{Answer, codes};
+use kinds::Refusal;
 
 // Writes the stored book from the first byte on; bytes beyond it stay.
-pub fn save(pool: &[u32], bytes: &mut [u8]) -> Answer
-    ensures { Writes (behind_check pool.now (saved pool.now bytes.old)) pool.now bytes.old result bytes.new }
+pub fn save(pool: &[u32], bytes: &mut [u8]) -> Result<(), Refusal>
+    ensures { Writes (behind_check pool.now (saved pool.now bytes.old)) pool.now bytes.old (ended result) bytes.new }
 {
-    let verdict = sound::verdict(pool);
-    if verdict != codes::DONE {
-        return Answer::refused(verdict);
-    }
+    let pool = sound::checked(pool)?;
     answers::save(pool, bytes)
 }

@@ -1,4 +1,5 @@
-// The changes, each by its code.
+// The changes: each is done, or refused. `Sound` is required, as the pool is changed in place, and a struct that held its `&mut` would have
+// to promise in each clause that it is still the same reference.
 #![tactic(auto)]
 
 ghost use Rattle.kinds.specs.Answer.{ended};
@@ -6,57 +7,48 @@ ghost use Rattle.pools.specs.Sound.{Sound};
 ghost use Rattle.promises.specs.Promises.{insertion, deletion, opening, closing};
 ghost use Rattle.promises.specs.Checked.{Changed};
 
-use hole::Removal;
-use kinds::{Pair, codes};
+use cells::SoundPool;
+use kinds::{Pair, Refusal};
+use strip::Strip;
 
 // Stores a pair.
-pub fn insert(pool: &mut [u32], p: Pair) -> u32
+pub fn insert(pool: &mut [u32], p: Pair) -> Result<(), Refusal>
     requires { Sound pool.old }
     ensures { Changed (insertion pool.old p) pool.old (ended result) pool.new }
 {
-    if down::is_stored(pool, p.x) {
-        return codes::TAKEN;
+    if down::is_stored(SoundPool { cells: &*pool }, p.x) {
+        return Err(Refusal::Taken);
     }
     if cells::first_free(pool) == 0 {
-        return codes::FULL;
+        return Err(Refusal::Full);
     }
     down::insert(pool, p);
-    codes::DONE
+    Ok(())
 }
 
 // Takes a pair out.
-pub fn delete(pool: &mut [u32], p: Pair) -> u32
+#[tactic(auto, using(crate::proofs::Changed::delete_ends))]
+pub fn delete(pool: &mut [u32], p: Pair) -> Result<(), Refusal>
     requires { Sound pool.old }
     ensures { Changed (deletion pool.old p) pool.old (ended result) pool.new }
 {
-    let removal = hole::delete(pool, p);
-    match removal {
-        Removal::Done => codes::DONE,
-        Removal::Missing => codes::MISSING,
-        Removal::Other => codes::OTHER,
-    }
+    hole::delete(pool, p)
 }
 
 // Opens a strip: its pair is stored.
-pub fn open(pool: &mut [u32], start: u32, end: u32, number: u32) -> u32
+pub fn open(pool: &mut [u32], start: u32, end: u32, number: u32) -> Result<(), Refusal>
     requires { Sound pool.old }
     ensures { Changed (opening pool.old start end number) pool.old (ended result) pool.new }
 {
-    let code = strip::strip_code(start, end, number);
-    if code != codes::DONE {
-        return code;
-    }
-    insert(pool, strip::pair(start, end, number))
+    let strip = Strip::new(start, end, number)?;
+    insert(pool, strip.pair())
 }
 
 // Closes a strip: its pair is taken out.
-pub fn close(pool: &mut [u32], start: u32, end: u32, number: u32) -> u32
+pub fn close(pool: &mut [u32], start: u32, end: u32, number: u32) -> Result<(), Refusal>
     requires { Sound pool.old }
     ensures { Changed (closing pool.old start end number) pool.old (ended result) pool.new }
 {
-    let code = strip::strip_code(start, end, number);
-    if code != codes::DONE {
-        return code;
-    }
-    delete(pool, strip::pair(start, end, number))
+    let strip = Strip::new(start, end, number)?;
+    delete(pool, strip.pair())
 }

@@ -1,168 +1,157 @@
-// The desk: one array for all that the program keeps, in parts; and calls with pseudo-random numbers, the same on every machine.
-pub use std::num::{wrapping_add_u32 as add, wrapping_sub_u32 as sub};
+// The calls of a turn, drawn, and the pools that refuse.
+use crate::call::{Call, LAST};
+use crate::counts::count;
+use crate::draws::{Sort, Turn, below, growing, shrinking};
+use crate::kind::Kind;
+use crate::step::Desk;
+use kinds::Refusal;
+use std::alloc::AllocError;
+use std::mem;
 
-pub type Desk = [u32; 262144];
-// The cells that are lent as a pool.
-pub const POOL: u32 = 0;
-// The pool's cells before a call.
-pub const KEPT: u32 = 16400;
-// The pool's cells as a set up is to leave them.
-pub const FRESH: u32 = 32800;
-// The plain list, x and y of each row.
-pub const ROWS: u32 = 49200;
-// For each row of the list the last turn in which it was shown.
-pub const SHOWN: u32 = 51300;
-// The counts, as they are printed: of the kinds from 1 on, of the codes from 18 on, and the others from 30 on.
-pub const COUNTS: u32 = 52400;
-// How many cells are lent as a pool, and how many rows the list has.
-pub const SIZES: u32 = 52500;
-// The pool's cells at the start of each run.
-pub const STARTS: u32 = 52600;
-// The kinds of call are numbers in the order of their counts, or letters from a on; a change's and its reversal's differ in the last bit.
-pub const SET_UP: u32 = 1;
-// The book is written.
-pub const SAVE: u32 = 3;
-// A pair is stored.
-pub const INSERT: u32 = 4;
-// A pair is removed.
-pub const DELETE: u32 = 5;
-// A strip is stored.
-pub const OPEN: u32 = 6;
-// A strip is removed. The questions follow.
-pub const CLOSE: u32 = 7;
-// The first of the four listings.
-pub const LISTING: u32 = 14;
-
-// A call, with up to three numbers in the order of its parameters.
-#[derive(Clone, Copy)]
-pub struct Call {
-    pub kind: u32,
-    pub a: u32,
-    pub b: u32,
-    pub c: u32,
-}
-
-pub fn at(desk: &Desk, part: u32, i: u32) -> u32 {
-    desk[((part as u64 + i as u64) % 262144) as usize]
-}
-
-pub fn put(desk: &mut Desk, part: u32, i: u32, value: u32) {
-    desk[((part as u64 + i as u64) % 262144) as usize] = value;
-}
-
-pub fn len(desk: &Desk) -> u32 {
-    at(desk, SIZES, 0)
-}
-
-pub fn rows(desk: &Desk) -> u32 {
-    at(desk, SIZES, 1)
-}
-
-pub fn pick(is: bool, a: u32, b: u32) -> u32 {
-    if is { a } else { b }
-}
-
-pub fn count(desk: &mut Desk, i: u32) {
-    let n = at(desk, COUNTS, i);
-    put(desk, COUNTS, i, add(n, 1));
-}
-
-// Copies n cells of one part to another, and says whether they stood there already.
-pub fn copy(desk: &mut Desk, from: u32, to: u32, n: u32) -> bool {
-    let mut is_same = true;
-    for i in 0..n {
-        let value = at(desk, from, i);
-        is_same = is_same & (at(desk, to, i) == value);
-        put(desk, to, i, value);
-    }
-    is_same
-}
-
-pub fn x_at(desk: &Desk, row: u32) -> u32 {
-    at(desk, ROWS, row << 1)
-}
-
-pub fn y_at(desk: &Desk, row: u32) -> u32 {
-    at(desk, ROWS, row << 1 | 1)
-}
-
-pub fn is_full(desk: &Desk) -> bool {
-    len(desk) / 4 <= add(rows(desk), 1)
-}
-
-pub fn new_call(kind: u32, a: u32, b: u32, c: u32) -> Call {
-    Call { kind, a, b, c }
-}
-
-fn mixed(n: u32) -> u32 {
-    let m = n as u64 * 2654435769 % 4294967296;
-    ((m + m / 32768) % 4294967296) as u32
-}
-
-// The k-th number of a turn, of up to 16.
-pub fn draw(turn: u32, k: u32) -> u32 {
-    mixed(mixed(turn << 4 | k))
-}
-
-pub fn below(n: u32, drawn: u32) -> u32 {
-    if n == 0 { 0 } else { drawn % n }
-}
-
-// The number before, the number itself or the next one.
-pub fn beside(n: u32, drawn: u32) -> u32 {
-    sub(add(n, drawn % 3), 1)
-}
-
-// A letter of `value`, of 32 for each sort of number: any x, any y, any slot, a stored x, y, end, number, the last slot.
-fn way_of(kind: u32, i: u32, drawn: u32) -> u8 {
-    let ways = b"ppppqqqqxxxbbbbssaaaaaaaaaaaaaaa\
-        0000mmmmttttttttyyyywwwwaaaaaaaa\
-        0looawweeeeeeeesssssssssssssssss\
-        xxxxxxxxxxxxxxxxxxxxxxxxxxxxxxxa\
-        yyyyyyyyyyyyy0mttttsssswwwwaaaaa\
-        eeeeeeeeeeeeeeeeeeeeeeeeeeeeeesw\
-        rrrrrrrrrrrrrrrrrrrrrrrrrrrrrrsw\
-        llllllllllllllllllllllllllllllll";
-    let sorts = b".000a000b000c000d010e340f222g456h001i001j000k270l220m220n004o270p220q220";
-    let sort = sorts[((kind << 2 | i) % 72) as usize] % 8;
-    ways[sort as usize * 32 + (drawn % 32) as usize]
-}
-
-// A number drawn so; x and y are those of a stored pair.
-fn value(way: u8, d: u32, x: u32, y: u32) -> u32 {
-    match way {
-        b'0' => 0,
-        b'm' => u32::MAX,
-        b'l' => 65535,
-        b'o' => 65536,
-        b'p' => beside(1u32 << (d % 32), d / 32),
-        b'q' => beside(u32::MAX << (d % 32), d / 32),
-        b'x' => x,
-        b'b' => beside(x, d),
-        b'y' => y,
-        b'e' => x / 65536,
-        b'r' => x % 65536,
-        b't' => d % 4,
-        b's' => d % 40,
-        b'w' => d % 65536,
-        _ => d,
+// What is put in a cell: an x in the other half of the root's stripe, the largest y, a link to the slot itself, or a bit turned over.
+fn damaged(old: u32, cell: usize, drawn: u32) -> u32 {
+    let turned = old ^ 1u32 << (drawn / 134217728 % 32);
+    match cell % 4 {
+        _ if cell < 4 => turned,
+        0 => old ^ 2147483648,
+        1 => u32::MAX,
+        _ if drawn % 4 == 1 => u32::try_from(cell / 4).unwrap_or(0),
+        _ => turned,
     }
 }
 
-// The i-th number of a call. A removal's are of one stored pair.
-fn number(desk: &Desk, kind: u32, i: u32, turn: u32) -> u32 {
-    let k = pick((kind == DELETE) | (kind == CLOSE), 8, 8 | i);
-    let row = below(rows(desk), draw(turn, k));
-    let way = way_of(kind, i, draw(turn, i));
-    value(way, draw(turn, 4 | i), x_at(desk, row), y_at(desk, row))
-}
+impl Desk {
+    // The i-th number of a call. A removal's are of one stored pair.
+    fn number(&self, kind: Kind, sort: Sort, i: u32, turn: Turn) -> u32 {
+        let k = match kind {
+            Kind::Delete | Kind::Close => 8,
+            _ => 8 | i,
+        };
+        let stored = self.rows.any(turn.draw(k));
+        sort.number(turn.draw(i) % 32, turn.draw(4 | i), stored)
+    }
 
-// A call of a kind; two limits are in their order but for once in 12.
-pub fn call_of(desk: &Desk, kind: u32, turn: u32) -> Call {
-    let a = number(desk, kind, 1, turn);
-    let b = number(desk, kind, 2, turn);
-    let c = number(desk, kind, 3, turn);
-    let is_limit = (kind == OPEN) | (CLOSE < kind) & (b != 65535);
-    let is_turned = is_limit & (b < a) & (draw(turn, 4) % 12 != 0);
-    new_call(kind, pick(is_turned, b, a), pick(is_turned, a, b), c)
+    // A call of a kind; two limits are in their order but for once in 12.
+    fn call_of(&self, kind: Kind, turn: Turn) -> Call {
+        let [first, second, third] = kind.sorts();
+        let a = self.number(kind, first, 1, turn);
+        let b = self.number(kind, second, 2, turn);
+        let c = self.number(kind, third, 3, turn);
+        let is_limit = kind == Kind::Open || kind.is_question() && b != LAST;
+        if is_limit && b < a && turn.draw(4) % 12 != 0 {
+            return Call::new(kind, b, a, c);
+        }
+        Call::new(kind, a, b, c)
+    }
+
+    // A kind by which the pool grows or shrinks for 64 turns; it is filled in phases 1 to 4, and in 5 filled on.
+    fn kind_at(&self, turn: Turn) -> Kind {
+        let drawn = turn.draw(0) as usize;
+        let phase = turn.phase();
+        if phase == 5 || (1..5).contains(&phase) && !self.is_full() {
+            return growing(drawn % 8);
+        }
+        if turn.age() / 64 % 2 == 0 {
+            return growing(drawn % 32);
+        }
+        shrinking(drawn % 32)
+    }
+
+    // The call of a turn. Phases 0 and 10 begin with a way down all the levels, along the powers of 2; in 6 to 9 three of four remove a stored pair.
+    pub fn call_at(&self, turn: Turn) -> Call {
+        let k = turn.age() % 384;
+        let phase = turn.phase();
+        if phase % 10 == 0 && k < 33 {
+            let power = 1u32.checked_shl(k).unwrap_or(0);
+            let x = if phase == 0 { power } else { !power };
+            return Call::new(Kind::Insert, x, (64 - k) % 33, 0);
+        }
+        if (6..10).contains(&phase) && !self.rows.is_empty() && turn.age() % 4 != 0 {
+            let row = self.rows.any(turn.draw(8));
+            return Call::new(Kind::Delete, row.x, row.y, 0);
+        }
+        self.call_of(self.kind_at(turn), turn)
+    }
+
+    // The four cells of a slot: x, y, and two links. Before the first one the second cell is the root, the last one the count.
+    pub fn slot(&self, i: usize) -> [u32; 4] {
+        let (slots, _) = self.pool.as_chunks::<4>();
+        slots.get(i).copied().unwrap_or_default()
+    }
+
+    // Whether a son of a slot would beat it if its y were the largest.
+    fn is_beaten(&self, slot: usize) -> bool {
+        let [_, _, left, right] = self.slot(slot);
+        let son = if left == 0 { right } else { left };
+        son == u32::MAX || son != 0 && self.slot(son as usize)[1] != u32::MAX
+    }
+
+    // A cell to damage; the first one where the pool might stay sound, at x of the root, and at y of a slot that no son would beat.
+    fn cell_for(&self, drawn: u32) -> usize {
+        let among = if drawn % 4 == 0 { 4 } else { self.pool.len() };
+        let cell = below(among, drawn / 4);
+        let is_safe = match cell % 4 {
+            0 => cell / 4 == self.slot(0)[1] as usize,
+            1 => !self.is_beaten(cell / 4),
+            _ => false,
+        };
+        if 3 < cell && is_safe { 0 } else { cell }
+    }
+
+    // Makes a call on another pool in place of the desk's, which is refused.
+    fn refuse(
+        &mut self,
+        rt: &impl Print,
+        other: Vec<u32>,
+        asked: Call,
+        refusal: Refusal,
+        turn: Turn,
+    ) -> Result<(), AllocError> {
+        let pool = mem::replace(&mut self.pool, other);
+        self.one(rt, asked, Some(refusal), turn)?;
+        self.pool = pool;
+        Ok(())
+    }
+
+    // Makes any call on a pool of a length that is too small, too large or uneven.
+    fn refuse_length(&mut self, rt: &impl Print, turn: Turn) -> Result<(), AllocError> {
+        let kind = Kind::ALL[(turn.draw(14) % 17) as usize];
+        let asked = self.call_of(kind, turn);
+        let drawn = turn.draw(13);
+        let len = match drawn % 8 {
+            0 => 0,
+            1 => 4,
+            2 => 16388,
+            _ => below(self.pool.len(), drawn / 32) | (drawn / 8 % 3 + 1) as usize,
+        };
+        let mut other = self.pool.clone()?;
+        other.resize(len, 0)?;
+        self.refuse(rt, other, asked, Refusal::Length, turn)?;
+        count(&mut self.counts.lengths);
+        Ok(())
+    }
+
+    // Makes a call that is no set up on a pool with a damaged cell.
+    fn refuse_damaged(&mut self, rt: &impl Print, turn: Turn) -> Result<(), AllocError> {
+        let kind = Kind::ALL[(turn.draw(14) % 16 + 1) as usize];
+        let asked = self.call_of(kind, turn);
+        let drawn = turn.draw(13);
+        let cell = self.cell_for(drawn);
+        let mut other = self.pool.clone()?;
+        if let Some(place) = other.get_mut(cell) {
+            *place = damaged(*place, cell, drawn);
+        }
+        self.refuse(rt, other, asked, Refusal::Unsound, turn)?;
+        count(&mut self.counts.damaged);
+        Ok(())
+    }
+
+    // Makes a call that is refused, by a length in one of two turns, by a damaged cell in the other.
+    pub fn refuse_one(&mut self, rt: &impl Print, turn: Turn) -> Result<(), AllocError> {
+        if turn.0 / 6 % 2 == 0 {
+            self.refuse_length(rt, turn)
+        } else {
+            self.refuse_damaged(rt, turn)
+        }
+    }
 }

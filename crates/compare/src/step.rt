@@ -1,135 +1,292 @@
 // One call on the pool, and the same on the plain list.
-ghost use Rattle.std.specs.Prelude.{◌≤◌, length};
+use crate::call::Call;
+use crate::counts::{Counts, count};
+use crate::draws::Turn;
+use crate::kind::Kind;
+use crate::plainly::Rows;
+use kinds::{Answer, Five, Limits, Pair, Refusal};
+use std::alloc::{AllocError, Global};
 
-use crate::desk::*;
-use crate::plainly::*;
-use kinds::{Answer, Five};
-
-// What the cells for a listing hold before it; the bytes for a book hold 238.
+// What the cells for a listing hold before it, and the bytes for a book.
 const UNWRITTEN: u32 = 2779096485;
 
-// Makes a call on the first cells, with cells for a listing and bytes for a book.
-fn answer(cells: &mut [u32], len: usize, out: &mut [u32], bytes: &mut [u8], asked: Call) -> Answer
-    requires { len ≤ length cells.old }
-{
-    let pool = &mut cells[0..len];
-    let kind = asked.kind;
-    match kind {
-        1 => pool::set_up(pool),
-        2 => pool::check(pool),
-        3 => book::save(pool, bytes),
-        4 => pool::insert(pool, asked.a, asked.b),
-        5 => pool::delete(pool, asked.a, asked.b),
-        6 => strips::open(pool, asked.a, asked.b, asked.c),
-        7 => strips::close(pool, asked.a, asked.b, asked.c),
-        8 => pool::smallest_x(pool, asked.a, asked.b, asked.c),
-        9 => pool::largest_x(pool, asked.a, asked.b, asked.c),
-        10 => pool::smallest_y(pool, asked.a, asked.b),
-        11 => strips::first_to_end(pool, asked.a),
-        12 => strips::last_to_end(pool, asked.a, asked.b),
-        13 => strips::earliest_start(pool, asked.a, asked.b),
-        14 => pool::listing(pool, asked.a, asked.b, asked.c, out),
-        15 => strips::list_covers(pool, asked.a, out),
-        16 => strips::list_meets(pool, asked.a, asked.b, out),
-        _ => strips::list_contains(pool, asked.a, asked.b, out),
+const BLANK: u8 = 238;
+
+// How many cells there are for a listing, and bytes for a book. Fewer of them are lent.
+const CELLS: usize = 2048;
+
+const BYTES: usize = 8192;
+
+// The pool, the list of the pairs that it is to hold, and the counts.
+#[derive(Drop)]
+pub struct Desk {
+    pub alloc: Global,
+    pub pool: Vec<u32>,
+    pub rows: Rows,
+    pub counts: Counts,
+}
+
+// The cells or bytes that a call needs beside the pool, and those that are lent.
+#[derive(Clone, Copy)]
+struct Room {
+    need: usize,
+    lent: usize,
+}
+
+impl Room {
+    fn is_short(self) -> bool {
+        self.lent < self.need
     }
 }
 
-// A byte of the list's book of this size: how many bytes follow the first four, a 1, and the rows; beyond it what was there.
-fn book_byte(desk: &Desk, size: u32, i: u32) -> u8 {
-    if size <= i {
-        return 238;
-    }
-    let head = pick(i == 0, 0, sub(size, 4) << 8 | 1);
-    let word = pick(i < 5, head, at(desk, ROWS, sub(i, 5) / 4));
-    ((word >> (24 - add(i, 3) % 4 * 8)) % 256) as u8
+// What a call is to tell, by its numbers, as a caller in C is told.
+#[derive(Clone, Copy, PartialEq, Eq)]
+struct Told {
+    code: u32,
+    pair: Pair,
+    shown: usize,
 }
 
-fn is_book(desk: &Desk, bytes: &[u8; 8192], n: u32, size: u32) -> bool {
-    let mut is_right = true;
-    for i in 0..n {
-        let byte = bytes[(i % 8192) as usize];
-        is_right = is_right & (byte == book_byte(desk, size, i));
-    }
-    is_right
-}
-
-// Whether a pair of cells is as it was, or if it is shown, is in the list, matches and was not shown in this turn before.
-fn is_match(desk: &mut Desk, asked: Call, x: u32, y: u32, is_shown: bool, turn: u32) -> bool {
-    if !is_shown {
-        return (x == UNWRITTEN) & (y == UNWRITTEN);
-    }
-    let row = scan(desk, new_call(INSERT, x, y, 0)).count;
-    let is_there = (row < rows(desk)) & (x_at(desk, row) == x) & (y_at(desk, row) == y);
-    let is_new = at(desk, SHOWN, row) != turn;
-    put(desk, SHOWN, row, turn);
-    is_there & is_new & matches(asked, x, y)
-}
-
-fn is_list(desk: &mut Desk, out: &[u32; 2048], n: u32, asked: Call, shown: u32, turn: u32) -> bool {
-    let mut is_right = true;
-    for i in 0..n {
-        let x = out[(i % 1024 * 2) as usize];
-        let y = out[(i % 1024 * 2 + 1) as usize];
-        is_right = is_match(desk, asked, x, y, i < shown, turn) & is_right;
-    }
-    is_right
-}
-
-// Makes a call; the code is 12, which is none, where it leaves the cells or bytes as it is not to.
-fn made(desk: &mut Desk, asked: Call, lent: u32, written: u32, turn: u32) -> Five {
-    let len = (len(desk) % 16389) as usize;
-    let mut out = [UNWRITTEN; 2048];
-    let mut bytes = [238u8; 8192];
-    let room = (lent % 2048) as usize;
-    let size = (lent % 8192) as usize;
-    let mut got = answer(desk, len, &mut out[0..room], &mut bytes[0..size], asked).numbers();
-    let n = pick(asked.kind == SAVE, 8192, 0);
-    let is_saved = is_book(desk, &bytes, n, written);
-    let pairs = pick(LISTING <= asked.kind, 1024, 0);
-    let is_listed = is_list(desk, &out, pairs, asked, written / 2, turn);
-    got.code = pick(is_saved & is_listed, got.code, 12);
-    got
-}
-
-// Counts a thing that was done; if it is not right, that is a difference, and its count and turn are printed.
-pub fn tell(rt: &impl Print, desk: &mut Desk, i: u32, is_right: bool, turn: u32) {
-    count(desk, i);
-    if !is_right {
-        count(desk, 36);
-        let _ = println!(rt; "{i} differs in turn {turn}");
+impl Told {
+    fn code(code: u32) -> Told {
+        Told {
+            code,
+            pair: Pair::default(),
+            shown: 0,
+        }
     }
 }
 
-// What is lent beside the pool: what is needed, a half, a quarter and so on, or one more or less; or more than enough.
-fn lent_to(kind: u32, need: u32, drawn: u32) -> u32 {
-    let part = beside(need >> (drawn % 8), drawn / 8);
-    let lent = pick(drawn % 8 == 7, u32::MAX, part);
-    below(pick(kind == SAVE, 8192, 2048), lent)
+impl From<Five> for Told {
+    fn from(five: Five) -> Told {
+        Told {
+            code: five.code,
+            pair: Pair {
+                x: five.x,
+                y: five.y,
+            },
+            shown: five.count as usize,
+        }
+    }
 }
 
-// Makes a call, on a pool of this health, and the same on the list, and compares; says whether a change was done.
-pub fn one(rt: &impl Print, desk: &mut Desk, asked: Call, health: u32, turn: u32) -> bool {
-    let kind = asked.kind;
-    let is_change = (kind == SET_UP) | (SAVE < kind) & (kind <= CLOSE);
-    let found = scan(desk, as_pair(asked));
-    let cells = pick(LISTING <= kind, found.count << 1, 0);
-    let need = pick(kind == SAVE, add(rows(desk) << 3, 5), cells);
-    let lent = lent_to(kind, need, draw(turn, 12));
-    let code = code_of(desk, asked, health, found.count, lent < need);
-    let written = pick(code == 0, need, pick(code == 10, lent / 2 * 2, 0));
-    let is_done = is_change & (code == 0);
-    let n = pick(is_change & !is_done, len(desk), 0);
-    copy(desk, POOL, KEPT, n);
-    let got = made(desk, asked, lent, written, turn);
-    let is_kept = copy(desk, POOL, KEPT, n);
-    let shown = pick(kind == SAVE, 0, written / 2);
-    let is_told = agrees(desk, got, kind, code, found.best, shown);
-    if is_done & (kind != SET_UP) {
-        update(desk, as_pair(asked), found.count);
+// What a call told, and whether it wrote what it is to.
+#[derive(Clone, Copy)]
+struct Made {
+    five: Five,
+    is_written: bool,
+}
+
+// Makes a call on a pool, with cells for a listing and bytes for a book.
+fn answer(pool: &mut [u32], out: &mut [u32], bytes: &mut [u8], asked: Call) -> Five {
+    let Call { kind, a, b, c } = asked;
+    let p = Pair { x: a, y: b };
+    let q = Limits {
+        x0: a,
+        x1: b,
+        y1: c,
+    };
+    let told: Answer = match kind {
+        Kind::SetUp => pool::set_up(pool).into(),
+        Kind::Check => pool::check(pool).into(),
+        Kind::Save => book::save(pool, bytes).into(),
+        Kind::Insert => pool::insert(pool, p).into(),
+        Kind::Delete => pool::delete(pool, p).into(),
+        Kind::Open => strips::open(pool, a, b, c).into(),
+        Kind::Close => strips::close(pool, a, b, c).into(),
+        Kind::SmallestX => pool::smallest_x(pool, q).into(),
+        Kind::LargestX => pool::largest_x(pool, q).into(),
+        Kind::SmallestY => pool::smallest_y(pool, a, b).into(),
+        Kind::FirstToEnd => strips::first_to_end(pool, a).into(),
+        Kind::LastToEnd => strips::last_to_end(pool, a, b).into(),
+        Kind::EarliestStart => strips::earliest_start(pool, a, b).into(),
+        Kind::Listing => pool::listing(pool, q, out).into(),
+        Kind::ListCovers => strips::list_covers(pool, a, out).into(),
+        Kind::ListMeets => strips::list_meets(pool, a, b, out).into(),
+        Kind::ListContains => strips::list_contains(pool, a, b, out).into(),
+    };
+    told.into()
+}
+
+// What is lent for a need: as much, a half, a quarter and so on, or one more or less; or more than enough.
+fn lent_for(need: usize, drawn: u32) -> usize {
+    match drawn % 8 {
+        7 => usize::MAX,
+        part => (need >> part)
+            .wrapping_add(drawn as usize / 8 % 3)
+            .wrapping_sub(1),
     }
-    let is_left = is_done & (at(desk, POOL, 3) == rows(desk)) | !is_done & is_kept;
-    count(desk, got.code % 12 + 18);
-    tell(rt, desk, kind, is_told & is_left, turn);
-    is_done
+}
+
+// Whether a question that is not refused visits the root, if there is one, no slot twice, and keeps to its bound; and no other call visits.
+fn is_bounded(visits: usize, kind: Kind, told: Told, stored: usize) -> bool {
+    let is_answered = matches!(told.code, Five::DONE | Five::NOTHING | Five::MORE);
+    let bound = if kind.is_question() && is_answered {
+        told.shown.wrapping_mul(2).wrapping_add(127)
+    } else {
+        0
+    };
+    let most = stored.min(bound);
+    visits <= most && (visits == 0) == (most == 0)
+}
+
+impl Desk {
+    // Whether each slot but the first one holds a pair.
+    pub fn is_full(&self) -> bool {
+        (self.pool.len() / 4).saturating_sub(1) <= self.rows.len()
+    }
+
+    // The room that a call needs, and is lent.
+    fn room(&self, asked: Call, turn: Turn) -> Room {
+        let drawn = turn.draw(12);
+        match asked.kind {
+            Kind::Save => {
+                let need = self.rows.len().wrapping_mul(8).wrapping_add(5);
+                let lent = lent_for(need, drawn) % BYTES;
+                Room { need, lent }
+            }
+            kind if kind.is_listing() => {
+                let need = self.rows.count(asked).wrapping_mul(2);
+                let lent = lent_for(need, drawn) % CELLS;
+                Room { need, lent }
+            }
+            _ => Room { need: 0, lent: 0 },
+        }
+    }
+
+    // How a change ends that its own numbers do not refuse.
+    fn change(&self, asked: Call) -> Result<(), Refusal> {
+        let row = asked.row();
+        let there = self.rows.get(row.x);
+        match asked.kind {
+            Kind::Insert | Kind::Open => match there {
+                Some(_) => Err(Refusal::Taken),
+                None if self.is_full() => Err(Refusal::Full),
+                None => Ok(()),
+            },
+            Kind::Delete | Kind::Close => match there {
+                Some(there) if there == row => Ok(()),
+                Some(_) => Err(Refusal::Other),
+                None => Err(Refusal::Missing),
+            },
+            _ => Ok(()),
+        }
+    }
+
+    // What a call is to tell that neither the pool nor its own numbers refuse.
+    fn told(&self, asked: Call, room: Room) -> Told {
+        match asked.kind {
+            Kind::Check => Told::code(Five::DONE),
+            Kind::Save if room.is_short() => Told::code(Refusal::Short.into()),
+            Kind::Save => Told::code(Five::DONE),
+            kind if kind.is_change() => Told::code(kinds::code_of(self.change(asked))),
+            kind if kind.is_listing() => Told {
+                code: if room.is_short() {
+                    Five::MORE
+                } else {
+                    Five::DONE
+                },
+                pair: Pair::default(),
+                shown: room.need.min(room.lent) / 2,
+            },
+            _ => match self.rows.best(asked) {
+                Some(row) => Told {
+                    code: Five::DONE,
+                    pair: row,
+                    shown: 0,
+                },
+                None => Told::code(Five::NOTHING),
+            },
+        }
+    }
+
+    // A call that is lent no more than the pool.
+    fn made(&mut self, asked: Call) -> Made {
+        Made {
+            five: answer(&mut self.pool, &mut [], &mut [], asked),
+            is_written: true,
+        }
+    }
+
+    // A save, and whether the bytes are the list's book, and beyond it as they were.
+    fn saved(&mut self, asked: Call, room: Room, told: Told) -> Result<Made, AllocError> {
+        let mut bytes = vec![in self.alloc; BLANK; BYTES]?;
+        let lent = room.lent.min(BYTES);
+        let five = answer(&mut self.pool, &mut [], &mut bytes[..lent], asked);
+        let mut book = if told.code == Five::DONE {
+            self.rows.book(self.alloc)?
+        } else {
+            Vec::new(self.alloc)
+        };
+        book.resize(BYTES, BLANK)?;
+        Ok(Made {
+            five,
+            is_written: bytes == book,
+        })
+    }
+
+    // A listing, and whether the cells hold as many pairs as it is to show, and beyond them what they held.
+    fn listed(&mut self, asked: Call, room: Room, told: Told) -> Result<Made, AllocError> {
+        let mut out = vec![in self.alloc; UNWRITTEN; CELLS]?;
+        let lent = room.lent.min(CELLS);
+        let five = answer(&mut self.pool, &mut out[..lent], &mut [], asked);
+        let shown = told.shown.wrapping_mul(2).min(CELLS);
+        let (shown, rest) = out.split_at(shown);
+        let pairs = shown
+            .as_chunks::<2>()
+            .0
+            .iter()
+            .map(|[x, y]| Pair { x: *x, y: *y });
+        let pairs = pairs.collect(self.alloc)?;
+        let is_written = self.rows.lists(asked, pairs)
+            && rest.iter().all(|cell| *cell == UNWRITTEN);
+        Ok(Made { five, is_written })
+    }
+
+    // Says by a number and the turn that a thing is not right, and counts it.
+    pub fn tell(&mut self, rt: &impl Print, number: u32, is_right: bool, turn: Turn) {
+        if !is_right {
+            count(&mut self.counts.differences);
+            let turn = turn.0;
+            let _ = println!(rt; "{number} differs in turn {turn}");
+        }
+    }
+
+    // Makes a call on the pool, of which the health is what refuses it, and the same on the list, and compares.
+    // Gives the change that takes it back, if it is a change that is done.
+    pub fn one(
+        &mut self,
+        rt: &impl Print,
+        asked: Call,
+        health: Option<Refusal>,
+        turn: Turn,
+    ) -> Result<Option<Call>, AllocError> {
+        let kind = asked.kind;
+        let room = self.room(asked, turn);
+        let told = match health.or(asked.refusal()) {
+            Some(refusal) => Told::code(refusal.into()),
+            None => self.told(asked, room),
+        };
+        let before = self.pool.clone()?;
+        let made = match kind {
+            Kind::Save => self.saved(asked, room, told)?,
+            kind if kind.is_listing() => self.listed(asked, room, told)?,
+            _ => self.made(asked),
+        };
+        let is_done = kind.is_change() && told.code == Five::DONE;
+        let back = if is_done { asked.reversed() } else { None };
+        if back.is_some() {
+            self.rows.update(asked.row())?;
+        }
+        let is_left = if is_done {
+            self.slot(0)[3] as usize == self.rows.len()
+        } else {
+            self.pool == before
+        };
+        let is_told = Told::from(made.five) == told
+            && is_bounded(made.five.visits as usize, kind, told, self.rows.len());
+        self.counts.call(kind, made.five.code);
+        self.tell(rt, kind as u32, is_told && is_left && made.is_written, turn);
+        Ok(back)
+    }
 }

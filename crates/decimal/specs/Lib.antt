@@ -1,3 +1,3 @@
--- A word as a number (Decimal), and how the code reads it (Reading).
+-- A word as a number (Decimal), and what the code reads of it (Reading).
 pub mod Decimal
 pub mod Reading

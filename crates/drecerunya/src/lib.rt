@@ -23,7 +23,7 @@ pub use list::{
 pub extern "C" fn drecerunya_set_up(pool: &mut [u32]) -> u32
     ensures { TellsCode (set_up pool.old) pool.old result pool.new }
 {
-    told::code_of(pool::set_up(pool))
+    told::code_of(pool::set_up(pool).into())
 }
 
 // Says whether a pool is sound, or gives the code of what is wrong.
@@ -31,7 +31,7 @@ pub extern "C" fn drecerunya_set_up(pool: &mut [u32]) -> u32
 pub extern "C" fn drecerunya_check(pool: &[u32]) -> u32
     ensures { TellsCode (check pool.now) pool.now result pool.now }
 {
-    told::code_of(pool::check(pool))
+    told::code_of(pool::check(pool).into())
 }
 
 // Writes the stored book from the first byte on; bytes beyond it stay.
@@ -39,5 +39,5 @@ pub extern "C" fn drecerunya_check(pool: &[u32]) -> u32
 pub extern "C" fn drecerunya_save(pool: &[u32], bytes: &mut [u8], answer: &mut [u32; 5]) -> u32
     ensures { Tells (behind_check pool.now (saved pool.now bytes.old)) pool.now bytes.old result pool.now bytes.new answer.new }
 {
-    told::tell(book::save(pool, bytes), answer)
+    told::tell_ended(book::save(pool, bytes), answer)
 }

@@ -4,6 +4,8 @@ ghost use Rattle.sound.specs.Promises.{behind_check};
 ghost use Rattle.promises.specs.Promises.{listing_asked, list_covers, list_meets, list_contains};
 ghost use Rattle.told.specs.Told.{Tells};
 
+use kinds::Limits;
+
 // The pairs with x0 ≤ x ≤ x1 and y ≤ y1, two cells each from the slice's start, as many as it has room for.
 #[unsafe(no_mangle)]
 pub extern "C" fn drecerunya_listing(
@@ -16,7 +18,10 @@ pub extern "C" fn drecerunya_listing(
 ) -> u32
     ensures { Tells (behind_check pool.now (listing_asked pool.now (limits x0 x1 y1) out.old)) pool.now out.old result pool.now out.new answer.new }
 {
-    told::tell(pool::listing(pool, x0, x1, y1, out), answer)
+    told::tell(
+        pool::listing(pool, Limits { x0, x1, y1 }, out).into(),
+        answer,
+    )
 }
 
 // The strips that cover slot u.
@@ -29,7 +34,7 @@ pub extern "C" fn drecerunya_list_covers(
 ) -> u32
     ensures { Tells (behind_check pool.now (list_covers pool.now u out.old)) pool.now out.old result pool.now out.new answer.new }
 {
-    told::tell(strips::list_covers(pool, u, out), answer)
+    told::tell(strips::list_covers(pool, u, out).into(), answer)
 }
 
 // The strips that cover some slot of u..v.
@@ -43,7 +48,7 @@ pub extern "C" fn drecerunya_list_meets(
 ) -> u32
     ensures { Tells (behind_check pool.now (list_meets pool.now u v out.old)) pool.now out.old result pool.now out.new answer.new }
 {
-    told::tell(strips::list_meets(pool, u, v, out), answer)
+    told::tell(strips::list_meets(pool, u, v, out).into(), answer)
 }
 
 // The strips that cover every slot of u..v.
@@ -57,5 +62,5 @@ pub extern "C" fn drecerunya_list_contains(
 ) -> u32
     ensures { Tells (behind_check pool.now (list_contains pool.now u v out.old)) pool.now out.old result pool.now out.new answer.new }
 {
-    told::tell(strips::list_contains(pool, u, v, out), answer)
+    told::tell(strips::list_contains(pool, u, v, out).into(), answer)
 }

@@ -14,9 +14,9 @@ turn c d s n h e =
     let z : n - s ≡ suc (n - (s + 1)) = omega arith in
     rw (z, e, add-one s)
 
-pub last_chained : (c d : List ℕ) (s n : ℕ) → n ≡ s → d ≡ put_free c s 0 → d ≡ chained c s (suc (n - s))
+pub last_chained : (c d : List ℕ) (s n : ℕ) → s ≡ n → d ≡ put_free c n 0 → d ≡ chained c s (suc (n - s))
 unfolding chained
-last_chained c d s n h e = let z : n - s ≡ 0 = omega arith in rw z e
+last_chained c d s n h e = let z : n - s ≡ 0 = omega arith in rw (z, h) e
 
 pub whole_chain : (c d : List ℕ) → Pool c → d ≡ put_header c 0 1 0 → chained d 1 (suc (slots_of c - 1)) ≡ fresh (slots_of c)
 whole_chain c d p e =

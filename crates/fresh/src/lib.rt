@@ -12,13 +12,9 @@ pub fn is_pool(pool: &[u32]) -> bool
     ensures { result ≡ is_pool pool.now }
 {
     let len = pool.len();
-    if len % cells::PER_SLOT != 0 {
-        return false;
-    }
-    if len < 2 * cells::PER_SLOT {
-        return false;
-    }
-    len <= (cells::MOST + 1) * cells::PER_SLOT
+    len % cells::PER_SLOT == 0
+        && 2 * cells::PER_SLOT <= len
+        && len <= (cells::MOST + 1) * cells::PER_SLOT
 }
 
 // Every slot is chained as free, in ascending order.
@@ -28,10 +24,8 @@ pub fn write_fresh(pool: &mut [u32])
 {
     let n = (pool.len() / cells::PER_SLOT - 1) as u32;
     cells::put_header(pool, 0, 1, 0);
-    let mut slot: u32 = 1;
-    while slot < n {
+    for slot in 1..n {
         cells::put_free(pool, slot, slot + 1);
-        slot += 1;
     }
-    cells::put_free(pool, slot, 0);
+    cells::put_free(pool, n, 0);
 }

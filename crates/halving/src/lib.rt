@@ -3,31 +3,23 @@
 
 ghost use Rattle.std.specs.Prelude.{◌≡◌};
 ghost use Rattle.trees.specs.Changes.{met};
-ghost use Rattle.pools.specs.Cells.{tree_at};
-ghost use Rattle.stripes.specs.Shape.{stripe_of};
 ghost use Rattle.trees.specs.Tree.{itself};
-ghost use Rattle.halving.specs.Sought.{Sought};
+ghost use Rattle.places.specs.Places.{tree_here, LeadsHere};
 
-use stripes::Stripe;
+use places::Place;
 
 // Whether x is met from a place down, looked for by halving the stripe.
-pub fn met(pool: &[u32], levels: u32, slot: u32, at: Stripe, x: u32) -> bool
-    requires { Sought pool.now levels slot (stripe_of at) }
-    ensures { result ≡ met itself x (stripe_of at) (tree_at pool.now levels slot) }
+pub fn met(pool: &[u32], place: Place, x: u32) -> bool
+    requires { LeadsHere pool.now place }
+    ensures { result ≡ met itself x place.stripe (tree_here pool.now place) }
 {
-    let mut place = slot;
-    let mut part = at;
-    let mut remaining = levels;
-    loop {
-        if place == 0 {
-            break false;
-        }
-        let p = cells::pair(pool, place);
+    let mut here = place;
+    while here.slot != 0 {
+        let p = cells::pair(pool, here.slot);
         if p.x == x {
-            break true;
+            return true;
         }
-        place = cells::son(pool, place, part.goes_left(x));
-        part = part.towards(x);
-        remaining -= 1;
+        here = here.towards(pool, x);
     }
+    false
 }

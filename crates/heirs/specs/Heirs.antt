@@ -1,5 +1,5 @@
 -- A slot's heir, the move of a pair into a slot, and a slot that is given up.
-use Rattle.std.specs.Prelude.{ℕ, ◌<◌, ◌≡◌, ◌≢◌, Bool, not, List, length, get_or, set}
+use Rattle.std.specs.Prelude.{ℕ, ◌<◌, ◌≡◌, ◌≢◌, Bool, not, Option, None, Some, List, length, get_or, set}
 use Rattle.kinds.specs.Pairs.{beats}
 use Rattle.pools.specs.Cells.{free_of, pair_at, left_at, right_at, put_pair, put_free}
 use Rattle.pools.specs.Links.{Fits, son_at, link_cell}
@@ -10,11 +10,11 @@ pub record Sons (c : List ℕ) (s : ℕ) : Type 0 where
   pub left : left_at c s ≢ 0 → Fits c (left_at c s)
   pub right : right_at c s ≢ 0 → Fits c (right_at c s)
 
--- the cell of the link to a slot's heir: 0 where it has no sons, and else that of the son that beats the other
-pub data Heirs (c : List ℕ) (s : ℕ) : ℕ → Type 0 where
-  no_sons : left_at c s ≡ 0 → right_at c s ≡ 0 → Heirs c s 0
+-- the cell of the link to a slot's heir: none where it has no sons, and else that of the son that beats the other
+pub data Heirs (c : List ℕ) (s : ℕ) : Option ℕ → Type 0 where
+  no_sons : left_at c s ≡ 0 → right_at c s ≡ 0 → Heirs c s None
   heir : (left : Bool) → son_at c s left ≢ 0
-      → (son_at c s (not left) ≢ 0 → beats (pair_at c (left_at c s)) (pair_at c (right_at c s)) ≡ left) → Heirs c s (link_cell s left)
+      → (son_at c s (not left) ≢ 0 → beats (pair_at c (left_at c s)) (pair_at c (right_at c s)) ≡ left) → Heirs c s (Some (link_cell s left))
 
 -- what a move up may rely on: slot s, a cell, and the slot that it links to are in the pool
 pub record Promotes (c : List ℕ) (s cell : ℕ) : Type 0 where

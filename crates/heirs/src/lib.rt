@@ -4,25 +4,23 @@
 ghost use Rattle.std.specs.Prelude.{◌≡◌};
 ghost use Rattle.heirs.specs.Heirs.{Sons, Heirs, Promotes, promoted, Releases, released};
 
-// The cell of the link to the son that beats the other, or 0 where there is no son.
-pub fn heir(pool: &[u32], slot: u32) -> usize
+// The cell of the link to the son that beats the other, if there is a son.
+pub fn heir(pool: &[u32], slot: u32) -> Option<usize>
     requires { Sons pool.now slot }
     ensures { Heirs pool.now slot result }
 {
     let left = cells::left(pool, slot);
     let right = cells::right(pool, slot);
-    if left == 0 {
-        if right == 0 {
-            return 0;
+    match (left, right) {
+        (0, 0) => None,
+        (0, _) => Some(cells::link_cell(slot, false)),
+        (_, 0) => Some(cells::link_cell(slot, true)),
+        _ => {
+            let l = cells::pair(pool, left);
+            let r = cells::pair(pool, right);
+            Some(cells::link_cell(slot, l.beats(r)))
         }
-        return cells::link_cell(slot, false);
     }
-    if right == 0 {
-        return cells::link_cell(slot, true);
-    }
-    let l = cells::pair(pool, left);
-    let r = cells::pair(pool, right);
-    cells::link_cell(slot, l.beats(r))
 }
 
 // The pair of the slot that a cell links to goes into another slot.

@@ -25,7 +25,8 @@ use Rattle.way.specs.Way.{Replaced, WayEnds}
 use Rattle.way.proofs.Links.{cell_agree}
 use Rattle.way.proofs.Counting.{count_written}
 use Rattle.way.proofs.Ways.{place_there, mem_there, stored_there, missing_there, replaced_root}
-use Rattle.hole.specs.declared.Removal.TheVariants.{Done, Missing, Other}
+use Rattle.std.specs.Prelude.{Ok, Err}
+use Rattle.kinds.specs.declared.Refusal.TheVariants.{Missing, Other}
 use Rattle.hole.specs.Hole.{Hole, Freed, Deletes, not_there, other_y, removed}
 use Rattle.hole.proofs.Cuts.{cut_there}
 
@@ -48,7 +49,7 @@ module _ {c : List ℕ} (s : Sound c) where
 
   module _ (p : Pair) {k cell : ℕ} (E : WayEnds c p.x k cell) where
     -- law: the place is empty
-    pub ends_missing : get_or c cell 0 ≡ 0 → Deletes c p Missing c
+    pub ends_missing : get_or c cell 0 ≡ 0 → Deletes c p (Err Missing) c
     ends_missing z = not_there (missing_there s E z)
 
     module _ (ne : get_or c cell 0 ≢ 0) where
@@ -60,7 +61,7 @@ module _ {c : List ℕ} (s : Sound c) where
         same_x = rw eq (E.met ne)
 
         -- law: x is stored with another y
-        pub ends_other : q.y ≢ p.y → Deletes c p Other c
+        pub ends_other : q.y ≢ p.y → Deletes c p (Err Other) c
         ends_other ny = other_y (stored_there s E ne) (on (has p (stored c)) (λ t. absurd (ny (ap (λ q. q.y) (same_pair there (has_mem s p t) same_x)))) (λ t. t))
 
         -- the pair itself
@@ -93,5 +94,5 @@ module _ {c : List ℕ} (s : Sound c) where
                   holds_agree H (cell_agree d 3 (n - 1) (cut s p.x).slot (omega arith))
 
               -- law: the pair is taken out
-              pub ends_done : {d' : List ℕ} → d' ≡ set d 3 (n - 1) → Deletes c p Done d'
+              pub ends_done : {d' : List ℕ} → d' ≡ set d 3 (n - 1) → Deletes c p (Ok tt) d'
               ends_done h = rw (h, deleted_one s p member changed given) (removed (mem_has s p member))

@@ -10,6 +10,7 @@ use lib.Dec.{eqb}
 use lib.ListN.{get_or, set, length-set}
 use lib.Seq.{get_or-set_same, get_or-set_other}
 use borrow.Author.Tests.{eqb-true, eqb-false}
+use Rattle.std.specs.Prelude.{None, Some}
 use Rattle.kinds.specs.declared.Pair.{Pair}
 use Rattle.kinds.specs.Pairs.{beats}
 use Rattle.trees.specs.Tree.{Tree, none, fork, itself}
@@ -25,7 +26,7 @@ use Rattle.way.specs.Way.{tree_there}
 use Rattle.way.proofs.Links.{link_inside, link_son, agree_get, cell_agree}
 use Rattle.way.proofs.Sides.{son_tree}
 use Rattle.way.proofs.Replacing.{Paired, paired_put, there_on, son_tree_lem, son_place, replaced_near}
-use Rattle.heirs.specs.Heirs.{Sons, Heirs, Promotes, promoted, Releases, released}
+use Rattle.heirs.specs.Heirs.{Sons, Heirs, Promotes, promoted, released}
 use Rattle.hole.specs.Hole.{Hole, Freed}
 use Rattle.hole.proofs.Cuts.{cut_on, Wins, alone, over, fill_on}
 use Rattle.hole.proofs.Heired.{Heired, heired, childless, won}
@@ -44,9 +45,6 @@ module _ {c : List ℕ} {k cell : ℕ} (o : Hole c k cell) where
     left = leads_fits c (leads_son c k s true o.place.leads o.there);
     right = leads_fits c (leads_son c k s false o.place.leads o.there);
   }
-
-  pub may_release : Releases c cell s
-  may_release = record { inside = o.place.inside; slot = hole_fits }
 
   -- a slot with no sons
   module _ (e : tree_there c k cell ≡ fork s (pair_at c s) none none) where
@@ -81,9 +79,9 @@ module _ {c : List ℕ} {k cell : ℕ} (o : Hole c k cell) where
         }
 
   -- law: the last slot
-  pub last_freed : {h : ℕ} {d : List ℕ} → Heirs c s h → h ≡ 0 → d ≡ released c cell s → Freed c k cell d
-  last_freed H z e =
-      let no = childless H z in
+  pub last_freed : {d : List ℕ} → Heirs c s None → d ≡ released c cell s → Freed c k cell d
+  last_freed H e =
+      let no = childless H refl in
       rw e (given_up (rw (tree_fork c k s o.there, tree_none c k (left_at c s) no.0, tree_none c k (right_at c s) no.1) refl))
 
   -- a slot with a son on a side
@@ -144,9 +142,9 @@ module _ {c : List ℕ} {k cell : ℕ} (o : Hole c (suc k) cell) (left : Bool) (
   }
 
 -- the same of the heir as the code finds it
-module _ {c : List ℕ} {k cell : ℕ} (o : Hole c k cell) {h : ℕ} (H : Heirs c (get_or c cell 0) h) (ne : h ≢ 0) where
+module _ {c : List ℕ} {k cell : ℕ} (o : Hole c k cell) {h : ℕ} (H : Heirs c (get_or c cell 0) (Some h)) where
   found : Heired c (get_or c cell 0) h
-  found = heired H ne
+  found = heired H refl
 
   pub promotes : Promotes c (get_or c cell 0) h
   promotes = rw found.at (son_promotes o found.left found.there)

@@ -1,6 +1,8 @@
 -- A hole that is filled, and how a deletion ends.
-use Rattle.std.specs.Prelude.{ℕ, ◌≡◌, ◌≢◌, true, false, List, get_or}
+use Rattle.std.specs.Prelude.{ℕ, ◌≡◌, ◌≢◌, true, false, List, get_or, Result, Ok, Err}
 use Rattle.kinds.specs.declared.Pair.{Pair}
+use Rattle.kinds.specs.declared.Refusal.{Refusal}
+use Rattle.kinds.specs.declared.Refusal.TheVariants.{Missing, Other}
 use Rattle.plain.specs.Plain.{has_x, has}
 use Rattle.trees.specs.Changes.{fill}
 use Rattle.pools.specs.Cells.{free_of, right_at, stored}
@@ -8,8 +10,6 @@ use Rattle.pools.specs.Laid.{deleted}
 use Rattle.pools.specs.Sound.{Free}
 use Rattle.trees.specs.Tree.{itself}
 use Rattle.way.specs.Way.{tree_there, Place, Replaced}
-use Rattle.hole.specs.declared.Removal.{Removal}
-use Rattle.hole.specs.declared.Removal.TheVariants.{Done, Missing, Other}
 
 -- a hole: a place, with k levels below it, where there is a slot
 pub record Hole (c : List ℕ) (k cell : ℕ) : Type 0 where
@@ -25,7 +25,7 @@ pub record Freed (c : List ℕ) (k cell : ℕ) (d : List ℕ) : Type 0 where
   pub next : right_at d (free_of d) ≡ free_of c
 
 -- how a deletion ends, over the stored list
-pub data Deletes (c : List ℕ) (p : Pair) : Removal → List ℕ → Type 0 where
-  not_there : has_x p.x (stored c) ≡ false → Deletes c p Missing c
-  other_y : has_x p.x (stored c) ≡ true → has p (stored c) ≡ false → Deletes c p Other c
-  removed : has p (stored c) ≡ true → Deletes c p Done (deleted c p.x)
+pub data Deletes (c : List ℕ) (p : Pair) : Result (Unit {0}) Refusal → List ℕ → Type 0 where
+  not_there : has_x p.x (stored c) ≡ false → Deletes c p (Err Missing) c
+  other_y : has_x p.x (stored c) ≡ true → has p (stored c) ≡ false → Deletes c p (Err Other) c
+  removed : has p (stored c) ≡ true → Deletes c p (Ok tt) (deleted c p.x)

@@ -4,50 +4,48 @@
 ghost use Rattle.pools.specs.Sound.{Sound};
 ghost use Rattle.hole.specs.Hole.{Hole, Freed, Deletes};
 
-use kinds::Pair;
+use cells::SoundPool;
+use kinds::{Pair, Refusal};
+use way::Place;
 
-// How a deletion ends.
-#[derive(Clone, Copy)]
-pub enum Removal {
-    Done,
-    // x is not stored.
-    Missing,
-    // x is stored with another y.
-    Other,
-}
-
-// Fills the hole at the slot that a cell links to, with so many levels below it.
-fn fill(pool: &mut [u32], levels: u32, cell: usize)
-    requires { Hole pool.old levels cell }
-    ensures { Freed pool.old levels cell pool.new }
+// Fills the hole at a place where there is a slot.
+fn fill(pool: &mut [u32], hole: Place)
+    requires { Hole pool.old hole.levels hole.cell }
+    ensures { Freed pool.old hole.levels hole.cell pool.new }
 {
-    let slot = pool[cell];
-    let son = heirs::heir(pool, slot);
-    if son == 0 {
-        heirs::release(pool, cell, slot);
+    let slot = pool[hole.cell];
+    let Some(son) = heirs::heir(pool, slot) else {
+        heirs::release(pool, hole.cell, slot);
         return;
-    }
+    };
     heirs::promote(pool, slot, son);
-    fill(pool, levels - 1, son);
+    fill(
+        pool,
+        Place {
+            cell: son,
+            levels: hole.levels - 1,
+        },
+    );
 }
 
 // Takes p out of a sound pool.
-pub fn delete(pool: &mut [u32], p: Pair) -> Removal
+// `Sound` is required, as the pool is changed in place, and a struct that held its `&mut` would have to promise in each clause that it is
+// still the same reference.
+pub fn delete(pool: &mut [u32], p: Pair) -> Result<(), Refusal>
     requires { Sound pool.old }
     ensures { Deletes pool.old p result pool.new }
 {
-    let end = way::find(pool, p.x);
-    let cell = end.cell;
-    let slot = pool[cell];
+    let end = way::find(SoundPool { cells: &*pool }, p.x);
+    let slot = pool[end.cell];
     if slot == 0 {
-        return Removal::Missing;
+        return Err(Refusal::Missing);
     }
     let q = cells::pair(pool, slot);
     if q.y != p.y {
-        return Removal::Other;
+        return Err(Refusal::Other);
     }
-    fill(pool, end.levels, cell);
+    fill(pool, end);
     let left = cells::count(pool) - 1;
     cells::put_count(pool, left);
-    Removal::Done
+    Ok(())
 }

@@ -6,7 +6,7 @@ ghost use Rattle.plain.specs.Plain.{in_range};
 ghost use Rattle.walks.specs.Walks.{list_own, room_of};
 ghost use Rattle.jot.specs.Jotting.{Put};
 
-use kinds::Pair;
+use kinds::{Limits, Pair};
 use questions::in_range;
 
 // The cells of a listed pair: x, y.
@@ -20,11 +20,11 @@ pub fn room_of(out: &[u32]) -> usize
 }
 
 // The slot's own pair, if it is in range, is written where there is room. It is counted also where there is none: a count beyond the room stops the walk.
-pub fn list_own(out: &mut [u32], p: Pair, x0: u32, x1: u32, count: usize) -> usize
+pub fn list_own(out: &mut [u32], p: Pair, q: Limits, count: usize) -> usize
     requires { count ≤ room_of out.old }
-    ensures { Put out.old count (list_own (in_range x0 x1 p) (room_of out.old - count) p) out.new result }
+    ensures { Put out.old count (list_own (in_range q.x0 q.x1 p) (room_of out.old - count) p) out.new result }
 {
-    if !in_range(p, x0, x1) {
+    if !in_range(p, q.x0, q.x1) {
         return count;
     }
     if room_of(out) <= count {

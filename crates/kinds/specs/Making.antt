@@ -1,12 +1,12 @@
--- How the code makes an answer out of a walk. No promise needs these; they serve the contracts of the answer's methods.
-use Rattle.std.specs.Prelude.{ℕ, Bool}
-use Rattle.kinds.specs.declared.Finding.{Finding}
+-- How the code makes an answer out of a walk. No promise needs these; they serve laws.
+use Rattle.std.specs.Prelude.{ℕ, Bool, Option}
+use Rattle.kinds.specs.declared.Pair.{Pair}
 use Rattle.kinds.specs.declared.Outcome.TheVariants.{Listed}
 use Rattle.kinds.specs.declared.Answer.{Answer}
 use Rattle.kinds.specs.Answer.{outcome_of}
 
 -- a finding, with the visits beside it
-abbrev pub answered : Finding → ℕ → Answer
+abbrev pub answered : Option Pair → ℕ → Answer
 answered f v = record { outcome = outcome_of f; visits = v }
 
 -- so many pairs listed, and whether a match found no room

@@ -1,12 +1,13 @@
 -- What a call promises, and how it refuses: by a table of codes, each with when it is given, in 01's order.
-use Rattle.std.specs.Prelude.{ℕ, ◌≡◌, Bool, cond, List, [], ◌∷◌, ◌++◌, eqb}
+use Rattle.std.specs.Prelude.{ℕ, ◌≡◌, Bool, cond, List, [], ◌∷◌, ◌++◌, eqb, Result as Tried, Ok, Err}
+use Rattle.kinds.specs.declared.Refusal.{Refusal}
 use Rattle.kinds.specs.declared.Answer.{Answer}
 use Rattle.kinds.specs.Answer.{five, refused}
 use Rattle.kinds.specs.Codes.{done}
 
--- a line of the table
+-- a line of the table: why it refuses, and when
 pub record Line : Type 0 where
-  pub code : ℕ
+  pub refusal : Refusal
   pub when : Bool
 
 -- what a call gives: its answer, the pool's cells, and the cells or bytes of the second slice, if it is lent one
@@ -25,7 +26,7 @@ unfoldable pub by_lines : List Line → (cells lent : List ℕ) → Result → R
 by_lines [] c out made = made
 by_lines (l ∷ ls) c out made =
     let rest : Result = by_lines ls c out made in
-    cond l.when (record { answer = refused l.code; cells = c; lent = out }) rest
+    cond l.when (record { answer = refused l.refusal; cells = c; lent = out }) rest
 
 -- what a call gives by its promise, on these cells and lent these
 abbrev pub given : Promise → (cells lent : List ℕ) → Result
@@ -35,10 +36,10 @@ given P c out = by_lines P.lines c out P.made
 abbrev pub accepted : Result → Bool
 accepted w = eqb (five w.answer).code done
 
--- the code of the first line that holds, and 0 where none does
-unfoldable pub first_code : List Line → ℕ
-first_code [] = done
-first_code (l ∷ ls) = let rest = first_code ls in cond l.when l.code rest
+-- a table alone: the first line that holds refuses
+unfoldable pub tested : List Line → Tried (Unit {0}) Refusal
+tested [] = Ok tt
+tested (l ∷ ls) = let rest = tested ls in cond l.when (Err l.refusal) rest
 
 -- lines that come before those of a promise
 abbrev pub behind : List Line → Promise → Promise

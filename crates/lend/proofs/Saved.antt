@@ -7,7 +7,7 @@ use lib.ListN.{length}
 use borrow.Author.Tests.{lt-ltb, le-ltb}
 use Rattle.kinds.specs.declared.Answer.{Answer}
 use Rattle.kinds.specs.Answer.{finished, refused}
-use Rattle.kinds.specs.Codes as codes
+use Rattle.kinds.specs.declared.Refusal.TheVariants.{Short}
 use Rattle.kinds.specs.Placed.{placed}
 use Rattle.kinds.specs.Promise.{Writes}
 use Rattle.kinds.proofs.Placing.{length_placed}
@@ -25,7 +25,7 @@ module _ (c o : List ℕ) (S : Sound c) (n : ℕ) (en : n ≡ count_of c) where
   as_stored = en ∙ sym (stored_count S)
 
   -- law: fewer bytes than the book has
-  pub too_short : {r : Answer} → length o < head_bytes + version_one.per_row * n → r ≡ refused codes.short → Writes (saved c o) c o r o
+  pub too_short : {r : Answer} → length o < head_bytes + version_one.per_row * n → r ≡ refused Short → Writes (saved c o) c o r o
   unfolding saved plain_save
   too_short h e =
       let z = as_stored in

@@ -1,3 +1,3 @@
--- The laws on digits, words and lines that the proofs of the reading cite.
+-- The laws on words and lines that the proofs of the reading cite.
 pub mod Words
 pub mod Lines

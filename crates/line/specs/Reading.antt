@@ -1,36 +1,18 @@
--- How the code reads a line: word by word, the numbers counted.
-use Rattle.std.specs.Prelude.{ℕ, suc, cond, List, [], ◌∷◌, ◌++◌, map, eqb}
-use Rattle.line.specs.declared.Asked.{Asked}
-use Rattle.line.specs.declared.Asked.TheVariants.{Malformed}
-use Rattle.line.specs.declared.Numbers.{Numbers}
-use Rattle.line.specs.declared.Numbers.TheVariants.{Other, One, Two, Three}
-use Rattle.line.specs.Line.{space, all_numbers, meant}
+-- How the code reads a line: as many numbers as its letter takes.
+use Rattle.std.specs.Prelude.{ℕ, ◌+◌, cond, ◌&&◌, List, [], ◌++◌, map, eqb, length, Option, Some, None}
+use Rattle.std.specs.Borrow.{Bor}
+use Rattle.line.specs.Line.{words, all_numbers}
 use Rattle.decimal.specs.Decimal.{value}
 
--- the place of the first byte x, the length if there is none
-unfoldable pub index_of : ℕ → List ℕ → ℕ
-index_of x [] = 0
-index_of x (b ∷ bs) = let rest = index_of x bs in cond (eqb b x) 0 (suc rest)
+-- the words of a text, if there is one
+abbrev pub words_in : Option (Bor (List ℕ)) → List (List ℕ)
+words_in None = []
+words_in (Some t) = words t.now
 
--- the bytes before the first space
-unfoldable pub word_length : List ℕ → ℕ
-word_length t = index_of space t
+-- the numbers vs, and those that the words behind them are, if they are n together
+unfoldable pub numbers_after : (n : ℕ) → List ℕ → List (List ℕ) → Option (List ℕ)
+numbers_after n vs ws = cond (all_numbers ws && eqb (length vs + length ws) n) (Some (vs ++ map value ws)) None
 
--- one to three numbers
-abbrev pub counted : List ℕ → Numbers
-counted [] = Other
-counted (a ∷ []) = One a
-counted (a ∷ b ∷ []) = Two a b
-counted (a ∷ b ∷ d ∷ []) = Three a b d
-counted (a ∷ b ∷ d ∷ e ∷ more) = Other
-
--- the numbers vs, and those of the words behind them
-unfoldable pub numbers_after : List ℕ → List (List ℕ) → Numbers
-numbers_after vs ws = cond (all_numbers ws) (counted (vs ++ map value ws)) Other
-
--- what a letter asks with so many numbers
-abbrev pub of_letter : ℕ → Numbers → Asked
-of_letter letter Other = Malformed
-of_letter letter (One u) = meant letter (u ∷ [])
-of_letter letter (Two u e) = meant letter (u ∷ e ∷ [])
-of_letter letter (Three start end number) = meant letter (start ∷ end ∷ number ∷ [])
+-- the numbers that n words are
+abbrev pub numbers_of : (n : ℕ) → List (List ℕ) → Option (List ℕ)
+numbers_of n ws = numbers_after n [] ws

@@ -1,18 +1,19 @@
 // Reading a line of the script: a letter, and decimal numbers after single spaces.
 #![tactic(auto)]
 
-ghost use Rattle.std.specs.Prelude.{◌≤◌, ◌≡◌, [], ◌∷◌, length};
-ghost use Rattle.line.specs.Line.{asked_by, words};
-ghost use Rattle.line.specs.Reading.{word_length, numbers_after, of_letter};
+ghost use Rattle.std.specs.Prelude.{◌≡◌, [], ◌∷◌, ◌==◌, position, unwrap_or};
+ghost use Rattle.line.specs.Line.{space, words, by_words, asked_by};
+ghost use Rattle.line.specs.declared.Asked.TheVariants.{Malformed};
+ghost use Rattle.line.specs.Reading.{words_in, numbers_of};
 
-use decimal::{Number, number_in};
+use decimal::number_in;
 
 // The most bytes of a line before its newline.
 const LONGEST: usize = 63;
 
 const SPACE: u8 = 32;
 
-// What a line asks.
+// What a line asks. A line that is malformed has an answer of its own, so it is one of the cases.
 #[derive(Clone, Copy)]
 pub enum Asked {
     Open { start: u32, end: u32, number: u32 },
@@ -23,104 +24,66 @@ pub enum Asked {
     Malformed,
 }
 
-// The numbers behind the letter, if there are one to three and nothing else.
-#[derive(Drop)]
-enum Numbers {
-    Other,
-    One(u32),
-    Two(u32, u32),
-    Three(u32, u32, u32),
+// Where the first space of a text is.
+fn space_in(text: &[u8]) -> Option<usize>
+    ensures { result ≡ position (λ b. b == space) text.now }
+{
+    text.iter().position(|b| *b == SPACE)
 }
 
-// The bytes before the first space.
-fn word_length(text: &[u8]) -> usize
-    ensures value { result ≡ word_length text.now }
-    ensures upper_bound { result ≤ length text.now }
+// The first word of a text, and what is behind its space, if it has one.
+fn first_word(text: &[u8]) -> (&[u8], Option<&[u8]>)
+    ensures { words text.now ≡ result.0.now ∷ words_in result.1 }
 {
-    for i in 0..text.len() {
-        if text[i] == SPACE {
-            return i;
+    match space_in(text) {
+        Some(n) => (&text[..n], Some(&text[n + 1..])),
+        None => (text, None),
+    }
+}
+
+// The numbers that the words of a text are, if there are so many.
+fn numbers_in<const N: usize>(text: &[u8]) -> Option<[u32; N]>
+    ensures { result ≡ numbers_of N (words text.now) }
+{
+    let mut numbers = [0; N];
+    let mut rest = Some(text);
+    for number in &mut numbers {
+        let (word, behind) = first_word(rest?);
+        *number = number_in(word)?;
+        rest = behind;
+    }
+    match rest {
+        Some(_) => None,
+        None => Some(numbers),
+    }
+}
+
+// What a letter asks with the numbers behind it, if they are as many as it takes.
+fn asked_with(letter: u8, text: &[u8]) -> Option<Asked>
+    ensures { unwrap_or result Malformed ≡ by_words ((letter ∷ []) ∷ words text.now) }
+{
+    match letter {
+        b'o' => {
+            let [start, end, number] = numbers_in::<3>(text)?;
+            Some(Asked::Open { start, end, number })
         }
-    }
-    text.len()
-}
-
-fn after_two(a: u32, b: u32, text: &[u8]) -> Numbers
-    ensures { result ≡ numbers_after (a ∷ b ∷ []) (words text.now) }
-{
-    let n = word_length(text);
-    let Number::Is(c) = number_in(&text[..n]) else {
-        return Numbers::Other;
-    };
-    if n == text.len() {
-        return Numbers::Three(a, b, c);
-    }
-    Numbers::Other
-}
-
-fn after_one(a: u32, text: &[u8]) -> Numbers
-    ensures { result ≡ numbers_after (a ∷ []) (words text.now) }
-{
-    let n = word_length(text);
-    let Number::Is(b) = number_in(&text[..n]) else {
-        return Numbers::Other;
-    };
-    if n == text.len() {
-        return Numbers::Two(a, b);
-    }
-    after_two(a, b, &text[n + 1..])
-}
-
-fn numbers_in(text: &[u8]) -> Numbers
-    ensures { result ≡ numbers_after [] (words text.now) }
-{
-    let n = word_length(text);
-    let Number::Is(a) = number_in(&text[..n]) else {
-        return Numbers::Other;
-    };
-    if n == text.len() {
-        return Numbers::One(a);
-    }
-    after_one(a, &text[n + 1..])
-}
-
-fn one_number(letter: u8, u: u32) -> Asked
-    ensures { result ≡ of_letter letter (Numbers.One u) }
-{
-    match letter {
-        b'f' => Asked::First(u),
-        b'a' => Asked::Covers(u),
-        _ => Asked::Malformed,
-    }
-}
-
-fn two_numbers(letter: u8, u: u32, e: u32) -> Asked
-    ensures { result ≡ of_letter letter (Numbers.Two u e) }
-{
-    match letter {
-        b'l' => Asked::Last { u, e },
-        _ => Asked::Malformed,
-    }
-}
-
-fn three_numbers(letter: u8, start: u32, end: u32, number: u32) -> Asked
-    ensures { result ≡ of_letter letter (Numbers.Three start end number) }
-{
-    match letter {
-        b'o' => Asked::Open { start, end, number },
-        b'c' => Asked::Close { start, end, number },
-        _ => Asked::Malformed,
-    }
-}
-
-fn of_letter(letter: u8, numbers: Numbers) -> Asked
-    ensures { result ≡ of_letter letter numbers }
-{
-    match numbers {
-        Numbers::Other => Asked::Malformed,
-        Numbers::One(u) => one_number(letter, u),
-        Numbers::Two(u, e) => two_numbers(letter, u, e),
-        Numbers::Three(start, end, number) => three_numbers(letter, start, end, number),
+        b'c' => {
+            let [start, end, number] = numbers_in::<3>(text)?;
+            Some(Asked::Close { start, end, number })
+        }
+        b'f' => {
+            let [u] = numbers_in::<1>(text)?;
+            Some(Asked::First(u))
+        }
+        b'l' => {
+            let [u, e] = numbers_in::<2>(text)?;
+            Some(Asked::Last { u, e })
+        }
+        b'a' => {
+            let [u] = numbers_in::<1>(text)?;
+            Some(Asked::Covers(u))
+        }
+        _ => None,
     }
 }
 
@@ -131,12 +94,8 @@ pub fn read_line(line: &[u8]) -> Asked
     if LONGEST < line.len() {
         return Asked::Malformed;
     }
-    if line.len() < 2 {
+    let [letter, SPACE, text @ ..] = line else {
         return Asked::Malformed;
-    }
-    if line[1] != SPACE {
-        return Asked::Malformed;
-    }
-    let numbers = numbers_in(&line[2..]);
-    of_letter(line[0], numbers)
+    };
+    asked_with(*letter, text).unwrap_or(Asked::Malformed)
 }

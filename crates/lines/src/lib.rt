@@ -1,4 +1,6 @@
 // A line of the script: what it asks is done, on a pool that is known to be sound, and printed. Nothing here checks the pool.
+// `Sound` is required, as the pool is changed in place, and a struct that held its `&mut` would have to promise in each clause that it is
+// still the same reference.
 #![tactic(auto)]
 
 ghost use Rattle.std.specs.Prelude.{◌+◌, ◌*◌, ◌/◌, ◌≤◌, length};
@@ -6,15 +8,9 @@ ghost use Rattle.pools.specs.Sound.{Sound};
 ghost use Rattle.lines.specs.Script.{done_by, line_answered, LineKept};
 ghost use Rattle.lines.specs.Writing.{Prints};
 
-use kinds::codes;
+use cells::SoundPool;
+use kinds::Refusal;
 use line::Asked;
-
-// How many bytes a line's output has, or that the lent bytes may not hold it.
-#[derive(Clone, Copy)]
-pub enum Told {
-    Bytes(usize),
-    Short,
-}
 
 // What is asked is done, and printed from the first byte on.
 pub fn perform(pool: &mut [u32], room: &mut [u32], output: &mut [u8], asked: Asked) -> usize
@@ -23,38 +19,42 @@ pub fn perform(pool: &mut [u32], room: &mut [u32], output: &mut [u8], asked: Ask
 {
     match asked {
         Asked::Open { start, end, number } => {
-            let code = answers::open(pool, start, end, number);
-            prints::put_code(output, code)
+            let ended = answers::open(pool, start, end, number);
+            prints::put_ended(output, ended)
         }
         Asked::Close { start, end, number } => {
-            let code = answers::close(pool, start, end, number);
-            prints::put_code(output, code)
+            let ended = answers::close(pool, start, end, number);
+            prints::put_ended(output, ended)
         }
         Asked::First(u) => {
-            let a = answers::first_to_end(pool, u);
-            prints::put_found(output, a)
+            let walked = answers::first_to_end(SoundPool { cells: &*pool }, u);
+            prints::put_found(output, walked.into())
         }
         Asked::Last { u, e } => {
-            let a = answers::last_to_end(pool, u, e);
-            prints::put_found(output, a)
+            let walked = answers::last_to_end(SoundPool { cells: &*pool }, u, e);
+            prints::put_found(output, walked.into())
         }
         Asked::Covers(u) => {
-            let a = answers::list_covers(pool, u, room);
-            prints::put_listed(output, a, room)
+            let listed = answers::list_covers(SoundPool { cells: &*pool }, u, room);
+            prints::put_listed(output, listed.into(), room)
         }
-        Asked::Malformed => prints::put_code(output, codes::MALFORMED),
+        Asked::Malformed => prints::put_code(output, Refusal::Malformed.into()),
     }
 }
 
-// Does what a line asks, and prints its answer from the first byte of the output on.
-pub fn answer_checked(pool: &mut [u32], room: &mut [u32], bytes: &[u8], output: &mut [u8]) -> Told
+// Does what a line asks, and prints its answer from the first byte of the output on: so many bytes, or none where they may be too few.
+pub fn answer_checked(
+    pool: &mut [u32],
+    room: &mut [u32],
+    bytes: &[u8],
+    output: &mut [u8],
+) -> Option<usize>
     requires { Sound pool.old }
     ensures { LineKept (line_answered pool.old room.old bytes.now output.old) pool.new room.new output.new result × Sound pool.new }
 {
     if prints::too_short(room.len(), output.len()) {
-        return Told::Short;
+        return None;
     }
     let asked = line::read_line(bytes);
-    let end = perform(pool, room, output, asked);
-    Told::Bytes(end)
+    Some(perform(pool, room, output, asked))
 }

@@ -7,80 +7,66 @@ use native.Mathlib.Omega.{arith}
 use lib.ListN.{length}
 use Rattle.kinds.specs.declared.Limits.{Limits}
 use Rattle.pools.specs.Cells.{root_of, tree_at}
-use Rattle.plain.specs.Plain.{limits}
 use Rattle.pools.specs.Sound.{Sound}
-use Rattle.stripes.specs.Stripe.{all_levels, Stripe, root_stripe}
+use Rattle.stripes.specs.Stripe.{all_levels, root_stripe}
 use Rattle.walks.specs.Walks.{ListWalked, listing, room_of}
 use Rattle.walks.proofs.Sizes.{listing_size}
-use Rattle.listing.specs.declared.Listing.{Listing}
-use Rattle.questions.specs.Walking.{Walkable}
+use Rattle.kinds.specs.declared.Listing.{Listing}
+use Rattle.places.specs.declared.Place.{Place}
+use Rattle.places.specs.Places.{tree_here, root_place}
 use Rattle.listing.specs.Listing.{Lists, Lent}
 use Rattle.questions.proofs.Top.{root_asked}
-use Rattle.listing.proofs.ListWalk.{list_none}
 use Rattle.listing.proofs.Filling.{Fills, fills, put_written, stopped, goes_on, next_place}
 
-module _ (c : List ℕ) (S : Sound c) (s : ℕ) (at : Stripe) (es : s ≡ root_of c) (ea : at ≡ root_stripe) where
-  pub from_root_lem : Walkable c all_levels s at 0
-  from_root_lem = rw (es, ea) (root_asked c S)
+module _ (c : List ℕ) (S : Sound c) (q : Limits) (o : List ℕ) {room : ℕ} (er : room ≡ room_of o) {p : Place} (ep : p ≡ root_place c) {o' : List ℕ} {n v : ℕ}
+    (X : Lists o 0 0 (listing q p.stripe (tree_here c p) (room_of o - 0)) o' n v) where
+  abbrev W : ListWalked
+  W = listing q root_stripe (tree_at c all_levels (root_of c)) (room_of o)
 
-  module _ (x0 x1 y1 : ℕ) (o : List ℕ) (room : ℕ) (er : room ≡ room_of o) (o' : List ℕ) (n v : ℕ)
-      (X : Lists o 0 0 (listing (limits x0 x1 y1) at (tree_at c all_levels s) (room_of o - 0)) o' n v) where
-    abbrev q : Limits
-    q = limits x0 x1 y1
+  whole : room_of o - 0 ≡ room_of o
+  whole = omega arith
 
-    abbrev W : ListWalked
-    W = listing q root_stripe (tree_at c all_levels (root_of c)) (room_of o)
+  made : Lists o 0 0 W o' n v
+  made = rw (ep, whole) at X
 
-    whole : room_of o - 0 ≡ room_of o
-    whole = omega arith
+  filled : Fills (room_of o) W
+  filled = fills q root_stripe (tree_at c all_levels (root_of c)) (room_of o)
 
-    made : Lists o 0 0 W o' n v
-    made = rw (es, ea, whole) at X
+  filled_here : Fills (room_of o - 0) W
+  filled_here = rw whole filled
 
-    filled : Fills (room_of o) W
-    filled = fills q root_stripe (tree_at c all_levels (root_of c)) (room_of o)
+  -- as many as there are slots at most
+  listed_few : length W.pairs < 4294967296
+  listed_few =
+      let a = filled.each in
+      let b = listing_size q root_stripe (tree_at c all_levels (root_of c)) (room_of o) in
+      let d = (root_asked c S).few in
+      omega arith
 
-    filled_here : Fills (room_of o - 0) W
-    filled_here = rw whole filled
+  lent : (r : Listing) → r.count ≡ length W.pairs → r.more ≡ W.more → r.visits ≡ v → Lent o W o' r
+  lent r e m y =
+      let z = made.visits in
+      record { count = e; more = m; visits = omega arith; cells = made.put.cells ∙ put_written o W.pairs filled.few }
 
-    -- as many as there are slots at most
-    listed_few : length W.pairs < 4294967296
-    listed_few =
-        let a = filled.each in
-        let b = listing_size q root_stripe (tree_at c all_levels (root_of c)) (room_of o) in
-        let d = (root_asked c S).few in
-        omega arith
+  module _ (b : room < n) where
+    no_room : W.more ≡ true
+    no_room = stopped o 0 W o' n (omega arith) filled_here made.put (omega arith)
 
-    lent : (r : Listing) → r.count ≡ length W.pairs → r.more ≡ W.more → r.visits ≡ v → Lent o W o' r
-    lent r e m y =
-        let z = made.visits in
-        record { count = e; more = m; visits = omega arith; cells = made.put.cells ∙ put_written o W.pairs filled.few }
+    all_full : room ≡ length W.pairs
+    all_full = er ∙ sym (filled.full no_room)
 
-    module _ (b : room < n) where
-      no_room : W.more ≡ true
-      no_room = stopped o 0 W o' n (omega arith) filled_here made.put (omega arith)
+    pub room_fits : room < 4294967296
+    room_fits = let z = all_full in let y = listed_few in omega arith
 
-      all_full : room ≡ length W.pairs
-      all_full = er ∙ sym (filled.full no_room)
+    pub list_full : Lent o W o' (record { count = room; more = true; visits = v })
+    list_full = lent _ all_full (sym no_room) refl
 
-      pub room_fits : room < 4294967296
-      room_fits = let z = all_full in let y = listed_few in omega arith
+  module _ (b : n ≤ room) where
+    all_listed : n ≡ length W.pairs
+    all_listed = let z = next_place o 0 W o' n (omega arith) filled_here made.put (omega arith) in omega arith
 
-      pub list_full : Lent o W o' (record { count = room; more = true; visits = v })
-      list_full = lent _ all_full (sym no_room) refl
+    pub count_fits : n < 4294967296
+    count_fits = let z = all_listed in let y = listed_few in omega arith
 
-    module _ (b : n ≤ room) where
-      all_listed : n ≡ length W.pairs
-      all_listed = let z = next_place o 0 W o' n (omega arith) filled_here made.put (omega arith) in omega arith
-
-      pub count_fits : n < 4294967296
-      count_fits = let z = all_listed in let y = listed_few in omega arith
-
-      pub list_whole : Lent o W o' (record { count = n; more = false; visits = v })
-      list_whole = lent _ all_listed (sym (goes_on o 0 W o' n (omega arith) filled_here made.put (omega arith))) refl
-
-  -- law: without a root nothing is listed
-  pub list_empty : (x0 x1 y1 : ℕ) (o : List ℕ) → s ≡ 0
-      → Lent o (listing (limits x0 x1 y1) root_stripe (tree_at c all_levels (root_of c)) (room_of o)) o (record { count = 0; more = false; visits = 0 })
-  list_empty x0 x1 y1 o z =
-      list_whole x0 x1 y1 o (room_of o) refl o 0 0 (list_none c all_levels s at (limits x0 x1 y1) o 0 0 (room_of o - 0) true z) (omega arith)
+    pub list_whole : Lent o W o' (record { count = n; more = false; visits = v })
+    list_whole = lent _ all_listed (sym (goes_on o 0 W o' n (omega arith) filled_here made.put (omega arith))) refl

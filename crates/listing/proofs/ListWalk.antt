@@ -1,5 +1,5 @@
 -- The listing, one step at a time, as the code takes it. It assumes a place that can be walked (`Walkable`), and a count within the room.
-use Prim.Native.Nat.{ℕ, suc, ◌+◌, ◌-◌, ◌≤◌, ◌<◌}
+use Prim.Native.Nat.{ℕ, ◌+◌, ◌-◌, ◌≤◌, ◌<◌}
 use mathlib.Core.Path.{◌≡◌, sym, ◌∙◌}
 use mathlib.Core.Bool.{Bool, true, false, cond, not}
 use mathlib.Core.List.{List, []}
@@ -9,35 +9,36 @@ use lib.ListN.{length}
 use borrow.Author.Tests.{lt-ltb, le-ltb, le-leb}
 use Rattle.kinds.specs.declared.Limits.{Limits}
 use Rattle.kinds.specs.declared.Pair.{Pair}
-use Rattle.pools.specs.Cells.{pair_at, left_at, right_at, tree_at}
-use Rattle.plain.specs.Plain.{limits, in_range, matches}
-use Rattle.stripes.specs.Stripe.{Stripe, middle, left_part, right_part}
+use Rattle.pools.specs.Cells.{pair_at}
+use Rattle.plain.specs.Plain.{in_range, matches}
+use Rattle.stripes.specs.Stripe.{middle, left_part, right_part}
 use Rattle.trees.specs.Tree.{size}
 use Rattle.walks.specs.Walks.{ListWalked, list_walked, and_then, list_own, listing, room_of}
 use Rattle.kinds.proofs.Tests.{on}
-use Rattle.pools.proofs.Leads.{back, tree_none, tree_fork}
 use Rattle.walks.proofs.Sizes.{listing_size}
 use Rattle.jot.specs.Jotting.{Put}
 use Rattle.listing.specs.Listing.{Lists}
+use Rattle.places.specs.declared.Place.{Place}
+use Rattle.places.specs.Places.{tree_here, left_place, right_place}
+use Rattle.places.proofs.Here.{none_here}
+use Rattle.questions.specs.Walking.{Walkable}
 use Rattle.questions.proofs.Finding.{not_lt}
+use Rattle.questions.proofs.Places.{slot_here, asked_right}
 use Rattle.listing.proofs.Filling.{Fills, fills, fills_own, fills_ask, own_visits, same_room, still_fits, stopped, goes_on, left_over, lists_stopped, lists_then, lists_nothing}
 
 -- a slot
-module _ (c : List ℕ) (k s : ℕ) (at : Stripe) (x0 x1 y1 : ℕ) (o : List ℕ) (n v : ℕ) (one : 1 ≤ s) (fit : n ≤ room_of o) (p : Pair) (ep : p ≡ pair_at c s) where
-  abbrev q : Limits
-  q = limits x0 x1 y1
-
+module _ (c : List ℕ) (p : Place) (q : Limits) (o : List ℕ) (n v : ℕ) (one : 1 ≤ p.slot) (w : Walkable c p v) (fit : n ≤ room_of o) {y : Pair} (ey : y ≡ pair_at c p.slot) where
   abbrev W : ListWalked
-  W = listing q at (tree_at c (suc k) s) (room_of o - n)
+  W = listing q p.stripe (tree_here c p) (room_of o - n)
 
   abbrev M : ListWalked
-  M = list_own (matches q (pair_at c s)) (room_of o - n) (pair_at c s)
+  M = list_own (matches q (pair_at c p.slot)) (room_of o - n) (pair_at c p.slot)
 
   abbrev L : ℕ → ListWalked
-  L room = cond (ltb x0 (middle at)) (listing q (left_part at) (tree_at c k (left_at c s)) room) (list_walked [] false 0)
+  L room = cond (ltb q.x0 (middle p.stripe)) (listing q (left_part p.stripe) (tree_here c (left_place c p)) room) (list_walked [] false 0)
 
   abbrev R : ℕ → ListWalked
-  R room = cond (leb (middle at) x1) (listing q (right_part at) (tree_at c k (right_at c s)) room) (list_walked [] false 0)
+  R room = cond (leb (middle p.stripe) q.x1) (listing q (right_part p.stripe) (tree_here c (right_place c p)) room) (list_walked [] false 0)
 
   abbrev A : ListWalked
   A = L (room_of o - n - length M.pairs)
@@ -45,34 +46,34 @@ module _ (c : List ℕ) (k s : ℕ) (at : Stripe) (x0 x1 y1 : ℕ) (o : List ℕ
   abbrev B : ListWalked
   B = R (room_of o - n - length M.pairs - length A.pairs)
 
-  list_fork : W ≡ cond (ltb y1 (pair_at c s).y) (list_walked [] false 1) (and_then M (and_then A B))
+  list_fork : W ≡ cond (ltb q.y1 (pair_at c p.slot).y) (list_walked [] false 1) (and_then M (and_then A B))
   unfolding listing
-  list_fork = rw (tree_fork c k s (λ e. omega arith))
+  list_fork = rw (slot_here c p v one w)
 
-  pub list_stop : y1 < p.y → Lists o n v W o n (v + 1)
+  pub list_stop : q.y1 < y.y → Lists o n v W o n (v + 1)
   list_stop h =
-      let h' : y1 < (pair_at c s).y = rw ep at h in
-      rw (list_fork, lt-ltb y1 (pair_at c s).y h') (lists_nothing o n v 1)
+      let h' : q.y1 < (pair_at c p.slot).y = rw ey at h in
+      rw (list_fork, lt-ltb q.y1 (pair_at c p.slot).y h') (lists_nothing o n v 1)
 
-  module _ (h : p.y ≤ y1) (room : ℕ) (er : room ≡ room_of o) (o1 : List ℕ) (n1 : ℕ) (P : Put o n (list_own (in_range x0 x1 p) (room_of o - n) p) o1 n1) where
+  module _ (h : y.y ≤ q.y1) {room : ℕ} (er : room ≡ room_of o) {o1 : List ℕ} {n1 : ℕ} (P : Put o n (list_own (in_range q.x0 q.x1 y) (room_of o - n) y) o1 n1) where
     goes_below : W ≡ and_then M (and_then A B)
     goes_below =
-        let h' : (pair_at c s).y ≤ y1 = rw ep at h in
-        list_fork ∙ rw (le-ltb y1 (pair_at c s).y h')
+        let h' : (pair_at c p.slot).y ≤ q.y1 = rw ey at h in
+        list_fork ∙ rw (le-ltb q.y1 (pair_at c p.slot).y h')
 
-    own_is : in_range x0 x1 (pair_at c s) ≡ matches q (pair_at c s)
+    own_is : in_range q.x0 q.x1 (pair_at c p.slot) ≡ matches q (pair_at c p.slot)
     own_is =
-        let h' : (pair_at c s).y ≤ y1 = rw ep at h in
-        on (in_range x0 x1 (pair_at c s)) (λ t. rw (t, le-leb (pair_at c s).y y1 h')) (λ f. rw f)
+        let h' : (pair_at c p.slot).y ≤ q.y1 = rw ey at h in
+        on (in_range q.x0 q.x1 (pair_at c p.slot)) (λ t. rw (t, le-leb (pair_at c p.slot).y q.y1 h')) (λ f. rw f)
 
     put_own : Put o n M o1 n1
-    put_own = rw (ep, own_is) at P
+    put_own = rw (ey, own_is) at P
 
     fills_m : Fills (room_of o - n) M
-    fills_m = fills_own (matches q (pair_at c s)) (room_of o - n) (pair_at c s)
+    fills_m = fills_own (matches q (pair_at c p.slot)) (room_of o - n) (pair_at c p.slot)
 
     lists_own : Lists o n v M o1 n1 (v + 1)
-    lists_own = record { put = put_own; visits = rw (own_visits (matches q (pair_at c s)) (room_of o - n) (pair_at c s)) }
+    lists_own = record { put = put_own; visits = rw (own_visits (matches q (pair_at c p.slot)) (room_of o - n) (pair_at c p.slot)) }
 
     pub list_own_full : room < n1 → Lists o n v W o1 n1 (v + 1)
     list_own_full b = rw goes_below (lists_stopped o n v M (and_then A B) o1 n1 (v + 1) lists_own (stopped o n M o1 n1 fit fills_m put_own (omega arith)))
@@ -87,24 +88,24 @@ module _ (c : List ℕ) (k s : ℕ) (at : Stripe) (x0 x1 y1 : ℕ) (o : List ℕ
       over_left : room_of o1 - n1 ≡ room_of o - n - length M.pairs
       over_left = left_over o n M o1 n1 fit fills_m put_own (omega arith)
 
-      module _ (l : ℕ) (go : Bool) (lp : Stripe) (el : l ≡ left_at c s) (eg : go ≡ ltb x0 (middle at)) (elp : lp ≡ left_part at) (o2 : List ℕ) (n2 v2 : ℕ)
-          (X : Lists o1 n1 (v + 1) (cond go (listing q lp (tree_at c k l) (room_of o1 - n1)) (list_walked [] false 0)) o2 n2 v2) where
+      module _ {l : Place} {go : Bool} (el : l ≡ left_place c p) (eg : go ≡ ltb q.x0 (middle p.stripe)) {o2 : List ℕ} {n2 v2 : ℕ}
+          (X : Lists o1 n1 (v + 1) (cond go (listing q l.stripe (tree_here c l) (room_of o1 - n1)) (list_walked [] false 0)) o2 n2 v2) where
         left_here : Lists o1 n1 (v + 1) (L (room_of o1 - n1)) o2 n2 v2
-        left_here = rw (el, eg, elp) at X
+        left_here = rw (el, eg) at X
 
         lists_left : Lists o1 n1 (v + 1) A o2 n2 v2
         lists_left = rw over_left at left_here
 
         fills_left : Fills (room_of o1 - n1) A
-        fills_left = rw (← over_left) (fills_ask (ltb x0 (middle at)) _ _ (fills q (left_part at) (tree_at c k (left_at c s)) (room_of o1 - n1)))
+        fills_left = rw (← over_left) (fills_ask (ltb q.x0 (middle p.stripe)) _ _ (fills q (left_part p.stripe) (tree_here c (left_place c p)) (room_of o1 - n1)))
 
         -- what the left son visited leaves room for the right one
-        pub list_room : v2 ≤ v + 1 + size (tree_at c k (left_at c s))
-        list_room =
+        pub right_asked : {r : Place} → r ≡ right_place c p → Walkable c r v2
+        right_asked er =
             let z = lists_left.visits in
-            let y = ask_size (ltb x0 (middle at)) (listing q (left_part at) (tree_at c k (left_at c s)) (room_of o - n - length M.pairs)) (size (tree_at c k (left_at c s)))
-            (listing_size q (left_part at) (tree_at c k (left_at c s)) (room_of o - n - length M.pairs)) in
-            omega arith
+            let y : A.visits ≤ size (tree_here c (left_place c p)) = ask_size (ltb q.x0 (middle p.stripe)) _ _
+            (listing_size q (left_part p.stripe) (tree_here c (left_place c p)) (room_of o - n - length M.pairs)) in
+            asked_right c p v one w _ v2 er (omega arith)
           where
             ask_size : (go : Bool) (w : ListWalked) (m : ℕ) → w.visits ≤ m → (cond go w (list_walked [] false 0)).visits ≤ m
             ask_size true w m e = e
@@ -129,26 +130,22 @@ module _ (c : List ℕ) (k s : ℕ) (at : Stripe) (x0 x1 y1 : ℕ) (o : List ℕ
           pub list_left_fits : n2 ≤ room_of o2
           list_left_fits = still_fits o1 n1 A o2 n2 lists_left.put room (er ∙ sym room_here) b2
 
-          pub list_both : (r : ℕ) (b : Bool) (rp : Stripe) → r ≡ right_at c s → b ≡ ltb x1 (middle at) → rp ≡ right_part at → (o3 : List ℕ) (n3 v3 : ℕ)
-              → Lists o2 n2 v2 (cond (not b) (listing q rp (tree_at c k r) (room_of o2 - n2)) (list_walked [] false 0)) o3 n3 v3 → Lists o n v W o3 n3 v3
-          list_both r b rp er eb erp o3 n3 v3 Y =
-              let Y' : Lists o2 n2 v2 (R (room_of o2 - n2)) o3 n3 v3 = rw (er, eb, erp, not_lt x1 (middle at)) at Y in
+          pub list_both : {r : Place} {b : Bool} {o3 : List ℕ} {n3 v3 : ℕ} → r ≡ right_place c p → b ≡ ltb q.x1 (middle p.stripe)
+              → Lists o2 n2 v2 (cond (not b) (listing q r.stripe (tree_here c r) (room_of o2 - n2)) (list_walked [] false 0)) o3 n3 v3 → Lists o n v W o3 n3 v3
+          list_both {o3 = o3} {n3 = n3} {v3 = v3} er eb Y =
+              let Y' : Lists o2 n2 v2 (R (room_of o2 - n2)) o3 n3 v3 = rw (er, eb, not_lt q.x1 (middle p.stripe)) at Y in
               let Z : Lists o2 n2 v2 B o3 n3 v3 = rw over_right at Y' in
               rw goes_below (lists_then o n v M (and_then A B) o1 n1 (v + 1) lists_own on_left o3 n3 v3
               (lists_then o1 n1 (v + 1) A B o2 n2 v2 lists_left on_right o3 n3 v3 Z))
 
 -- a son's place
-module _ (c : List ℕ) (k s : ℕ) (at : Stripe) (q : Limits) (o : List ℕ) (n v room : ℕ) (go : Bool) where
+module _ (c : List ℕ) (p : Place) (q : Limits) (o : List ℕ) (n v room : ℕ) (go : Bool) where
   nowhere : Lists o n v (list_walked [] false 0) o n v
   nowhere = let e : v + 0 ≡ v = omega arith in rw e at (lists_nothing o n v 0)
 
-  pub list_none : s ≡ 0 → Lists o n v (cond go (listing q at (tree_at c k s) room) (list_walked [] false 0)) o n v
+  pub list_none : p.slot ≡ 0 → Lists o n v (cond go (listing q p.stripe (tree_here c p) room) (list_walked [] false 0)) o n v
   unfolding listing
-  list_none e = rw (tree_none c k s e) (on go (λ t. rw t nowhere) (λ f. rw f nowhere))
+  list_none e = rw (none_here c p e) (on go (λ t. rw t nowhere) (λ f. rw f nowhere))
 
-  pub list_unasked : go ≡ false → Lists o n v (cond go (listing q at (tree_at c k s) room) (list_walked [] false 0)) o n v
+  pub list_unasked : go ≡ false → Lists o n v (cond go (listing q p.stripe (tree_here c p) room) (list_walked [] false 0)) o n v
   list_unasked e = rw e nowhere
-
-  pub list_asked : (o' : List ℕ) (n' v' : ℕ) → go ≡ true → (k ≡ 0 → ⊥) → Lists o n v (listing q at (tree_at c (suc (k - 1)) s) room) o' n' v'
-      → Lists o n v (cond go (listing q at (tree_at c k s) room) (list_walked [] false 0)) o' n' v'
-  list_asked o' n' v' e d X = rw e (rw (back k d) at X)

@@ -2,7 +2,7 @@
 use Rattle.std.specs.Prelude.{ℕ, ◌+◌, ◌≡◌, List, length}
 use Rattle.walks.specs.Walks.{ListWalked, written}
 use Rattle.jot.specs.Jotting.{Put}
-use Rattle.listing.specs.declared.Listing.{Listing}
+use Rattle.kinds.specs.declared.Listing.{Listing}
 
 -- the listing w was made, and v has become v'
 pub record Lists (o : List ℕ) (n v : ℕ) (w : ListWalked) (o' : List ℕ) (n' v' : ℕ) : Type 0 where

@@ -1,33 +1,23 @@
 // Smallest y over a sound pool.
 #![tactic(auto)]
 
-ghost use Rattle.std.specs.Prelude.{◌≡◌, suc, ◌≤◌, ltb, leb};
+ghost use Rattle.std.specs.Prelude.{◌≡◌, ◌≤◌};
 ghost use Rattle.pools.specs.Cells.{root_of, tree_at};
-ghost use Rattle.stripes.specs.Shape.{stripe_of};
-ghost use Rattle.pools.specs.Sound.{Sound};
-ghost use Rattle.stripes.specs.Stripe.{all_levels, root_stripe, middle, left_part, right_part};
+ghost use Rattle.stripes.specs.Stripe.{all_levels, root_stripe};
 ghost use Rattle.walks.specs.Walks.{smallest_y, ask};
-ghost use Rattle.questions.specs.Walking.{Some, Walkable, Made};
-ghost use Rattle.lowest.specs.Sons.{Lower, asks, lower_of, AskedSons};
+ghost use Rattle.places.specs.Places.{tree_here};
+ghost use Rattle.questions.specs.Walking.{IsLink, Walkable, Made};
+ghost use Rattle.lowest.specs.Sons.{Lower, AskedSons, sons_asked};
 
-use kinds::{Finding, Walked};
+use cells::SoundPool;
+use kinds::Walked;
+use places::Place;
 use questions::{found_at, in_range};
-use stripes::Stripe;
-
-// Whether a son is asked: it is there, and its side is asked.
-fn asks(son: u32, go: bool) -> bool
-    ensures { result ≡ asks son go }
-{
-    if son == 0 {
-        return false;
-    }
-    go
-}
 
 // Of what the left and the right son found, the one with the smaller y; left on equal y.
 #[tactic(auto, using(crate::proofs::YWalk::lower_second, crate::proofs::YWalk::lower_first, crate::proofs::YWalk::second_wins, crate::proofs::YWalk::first_wins))]
 fn lower(pool: &[u32], l: u32, r: u32) -> u32
-    requires { Some pool.now l × Some pool.now r }
+    requires { IsLink pool.now l × IsLink pool.now r }
     ensures { Lower pool.now l r result }
 {
     if l == 0 {
@@ -44,85 +34,60 @@ fn lower(pool: &[u32], l: u32, r: u32) -> u32
     l
 }
 
-// Smallest y at a slot, with so many levels below it.
+// The slot with the smallest y at a slot, 0 where none is in range: what is found is a link, as the lent cells have it.
 #[cycle(better_son_smallest_y_at)]
-fn smallest_y_at(
-    pool: &[u32],
-    levels: u32,
-    slot: u32,
-    at: Stripe,
-    x0: u32,
-    x1: u32,
-    visits: &mut u32,
-) -> u32
-    requires { (1 ≤ slot) × Walkable pool.now (suc levels) slot (stripe_of at) visits.old }
-    ensures { Made pool.now visits.old (smallest_y x0 x1 (stripe_of at) (tree_at pool.now (suc levels) slot)) result visits.new }
+fn smallest_y_at(pool: &[u32], place: &Place, x0: u32, x1: u32, visits: &mut u32) -> u32
+    requires { (1 ≤ place.now.slot) × Walkable pool.now place.now visits.old }
+    ensures { Made pool.now visits.old (smallest_y x0 x1 place.now.stripe (tree_here pool.now place.now)) result visits.new }
 {
     *visits += 1;
-    let p = cells::pair(pool, slot);
-    if in_range(p, x0, x1) {
-        return slot;
+    if in_range(cells::pair(pool, place.slot), x0, x1) {
+        return place.slot;
     }
-    let left = cells::left(pool, slot);
-    let right = cells::right(pool, slot);
-    better_son(pool, levels, left, right, at, x0, x1, visits)
+    better_son(pool, place, x0, x1, visits)
 }
 
-// The better of the sons' answers, each son asked if it is there and on a side that is asked.
+// The better of the sons' answers, after the slot's own visit.
 #[cycle(better_son_smallest_y_at)]
-fn better_son(
-    pool: &[u32],
-    levels: u32,
-    left: u32,
-    right: u32,
-    at: Stripe,
-    x0: u32,
-    x1: u32,
-    visits: &mut u32,
-) -> u32
-    requires { AskedSons pool.now levels left right (stripe_of at) visits.old }
-    ensures { Made pool.now visits.old (lower_of (ask (ltb x0 (middle (stripe_of at))) (smallest_y x0 x1 (left_part (stripe_of at)) (tree_at pool.now levels left))) (ask (leb (middle (stripe_of at)) x1) (smallest_y x0 x1 (right_part (stripe_of at)) (tree_at pool.now levels right)))) result visits.new }
+fn better_son(pool: &[u32], place: &Place, x0: u32, x1: u32, visits: &mut u32) -> u32
+    requires { (1 ≤ place.now.slot) × AskedSons pool.now place.now visits.old }
+    ensures { Made pool.now visits.old (sons_asked pool.now place.now x0 x1) result visits.new }
 {
-    let to_left = asks(left, at.goes_left(x0));
-    let to_right = asks(right, !at.goes_left(x1));
-    if to_left {
-        let l = smallest_y_at(pool, levels - 1, left, at.left(), x0, x1, visits);
-        if to_right {
-            let r = smallest_y_at(pool, levels - 1, right, at.right(), x0, x1, visits);
-            return lower(pool, l, r);
-        }
-        return l;
+    let to_left = place.goes_left(x0);
+    let to_right = !place.goes_left(x1);
+    let l = smallest_y_son(pool, &place.left(pool), to_left, x0, x1, visits);
+    let r = smallest_y_son(pool, &place.right(pool), to_right, x0, x1, visits);
+    lower(pool, l, r)
+}
+
+// The slot with the smallest y at a son's place, if the son is there and asked.
+#[cycle(better_son_smallest_y_at)]
+fn smallest_y_son(pool: &[u32], place: &Place, go: bool, x0: u32, x1: u32, visits: &mut u32) -> u32
+    requires { Walkable pool.now place.now visits.old }
+    ensures { Made pool.now visits.old (ask go (smallest_y x0 x1 place.now.stripe (tree_here pool.now place.now))) result visits.new }
+{
+    if go && place.slot != 0 {
+        smallest_y_at(pool, place, x0, x1, visits)
+    } else {
+        0
     }
-    if to_right {
-        return smallest_y_at(pool, levels - 1, right, at.right(), x0, x1, visits);
-    }
-    0
 }
 
 // The pair with the smallest y among those with x0 ≤ x ≤ x1, on equal y the one with the smaller x.
-pub fn smallest_y(pool: &[u32], x0: u32, x1: u32) -> Walked
-    requires { Sound pool.now }
-    ensures { result ≡ smallest_y x0 x1 root_stripe (tree_at pool.now all_levels (root_of pool.now)) }
+pub fn smallest_y(pool: SoundPool<'_>, x0: u32, x1: u32) -> Walked
+    ensures { result ≡ smallest_y x0 x1 root_stripe (tree_at pool.entry.cells.now all_levels (root_of pool.entry.cells.now)) }
 {
-    let root = cells::root(pool);
-    if root == 0 {
+    let root = Place::root(pool.cells);
+    if root.slot == 0 {
         return Walked {
-            finding: Finding::Nothing,
+            finding: None,
             visits: 0,
         };
     }
     let mut visits: u32 = 0;
-    let slot = smallest_y_at(
-        pool,
-        Stripe::LEVELS,
-        root,
-        Stripe::root(),
-        x0,
-        x1,
-        &mut visits,
-    );
+    let slot = smallest_y_at(pool.cells, &root, x0, x1, &mut visits);
     Walked {
-        finding: found_at(pool, slot),
+        finding: found_at(pool.cells, slot),
         visits,
     }
 }

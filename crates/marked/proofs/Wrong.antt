@@ -1,11 +1,11 @@
 -- A program that keeps a promise is none of 01's five wrong programs. What it answers is the promise's, so each law is one of the promise.
+use Rattle.std.specs.Prelude.{Option, Some, None}
 use Prim.Native.Nat.{ℕ, suc, ◌+◌, ◌*◌}
 use mathlib.Core.Path.{◌≡◌, refl, ◌∙◌}
 use mathlib.Core.Logic.{inl, inr}
 use mathlib.Core.Bool.{true, false}
 use mathlib.Core.List.{List, [], ◌∷◌}
-use Rattle.kinds.specs.declared.Finding.{Finding}
-use Rattle.kinds.specs.declared.Finding.TheVariants.{Found as found_pair, Nothing as no_pair}
+use Rattle.kinds.specs.declared.Pair.{Pair}
 use Rattle.kinds.specs.declared.Outcome.{Outcome}
 use Rattle.kinds.specs.declared.Outcome.TheVariants.{Found, Nothing, Listed, Refused}
 use Rattle.kinds.specs.Answer.{five, numbers_of, outcome_of}
@@ -46,9 +46,9 @@ served_visits (Listed n true) v f = refl
 served_visits (Refused k) v f = absurd (clash refl f)
 
 -- a finding is no refusal
-finding_serves : (f : Finding) → is_refusal (outcome_of f) ≡ false
-finding_serves (found_pair p) = refl
-finding_serves no_pair = refl
+finding_serves : (f : Option Pair) → is_refusal (outcome_of f) ≡ false
+finding_serves (Some p) = refl
+finding_serves None = refl
 
 -- what no line of a call's table refuses is no refusal
 serves : (c : List ℕ) (k : Call) → is_refusal (promised c k).made.answer.outcome ≡ false

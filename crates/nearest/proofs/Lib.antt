@@ -1,7 +1,7 @@
--- The laws that the proofs of the x walks cite.
+-- The laws that the proof of the x walks cites.
 pub mod Turns
 pub mod Stops
 pub mod Sides
 pub mod Rows
 pub mod GoesOn
-pub mod InRows
+pub mod AtTurn

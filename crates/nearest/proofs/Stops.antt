@@ -1,11 +1,11 @@
 -- What a walk relies on at a stop holds at the sons that it asks, a level lower. It assumes that a son's link leads to the tree that is read
 -- there, and a stripe with a level below it, or no son.
+use Rattle.std.specs.Prelude.{None}
 use Prim.Native.Nat.{ℕ, zero, suc, ◌≤◌}
 use mathlib.Core.Path.{◌≡◌, refl, sym, ap, ◌∙◌}
 use mathlib.Core.Bool.{Bool, true, false, cond}
 use mathlib.Core.List.{List}
 use native.Mathlib.Omega.{arith}
-use Rattle.kinds.specs.declared.Finding.TheVariants.{Nothing}
 use Rattle.kinds.specs.declared.Pair.{Pair}
 use Rattle.kinds.specs.declared.Walked.{Walked}
 use Rattle.pools.specs.Cells.{tree_at}
@@ -17,7 +17,7 @@ use Rattle.walks.specs.Walks.{seen, ask}
 use Rattle.slim.specs.declared.Slim.{Slim}
 use Rattle.slim.specs.Slim.{stripe_by, left_slim, right_slim, SlimAt}
 use Rattle.slim.proofs.Slims.{left_part_lem, right_part_lem}
-use Rattle.nearest.specs.Waiting.{stop, StopFits}
+use Rattle.nearest.specs.Waiting.{StopFits}
 
 module _ (c : List ℕ) where
   -- a son that is asked, or none
@@ -32,7 +32,7 @@ module _ (c : List ℕ) where
 
   -- law: a son that is asked fits a level lower
   pub asked_fits : (go : Bool) (s j e : ℕ) (at : Slim) → Leads c s (tree_at c low_levels s) → Within j (tree_at c low_levels s)
-      → SlimAt e at → Within (suc e) (tree_at c low_levels s) → StopFits c j (stop (cond go s 0) at)
+      → SlimAt e at → Within (suc e) (tree_at c low_levels s) → StopFits c j (record { slot = cond go s 0; at = at })
   asked_fits go s j e at o w h r = record {
     leads = asked_leads go s o;
     levels = asked_within go s j o w;
@@ -46,7 +46,7 @@ module _ (c : List ℕ) where
   asked_size true s o = rw (tree_deeper c low_levels s o) (omega arith)
   asked_size false s o = rw (tree_none c all_levels 0 refl) (omega arith)
 
-  module _ (W : Stripe → Tree Pair → Walked) (empty : (at : Stripe) → W at none ≡ seen Nothing 0) where
+  module _ (W : Stripe → Tree Pair → Walked) (empty : (at : Stripe) → W at none ≡ seen None 0) where
     -- law: a walk from it is a son's walk, asked or not
     pub asked_walk : (go : Bool) (s : ℕ) (at : Stripe) → Leads c s (tree_at c low_levels s)
         → ask go (W at (tree_at c low_levels s)) ≡ W at (tree_at c all_levels (cond go s 0))
@@ -54,7 +54,7 @@ module _ (c : List ℕ) where
     asked_walk false s at o = rw (tree_none c all_levels 0 refl) (sym (empty at))
 
 -- law: a walk from a slim part is that from the part, or there is no tree to walk
-module _ (W : Stripe → Tree Pair → Walked) (empty : (at : Stripe) → W at none ≡ seen Nothing 0) where
+module _ (W : Stripe → Tree Pair → Walked) (empty : (at : Stripe) → W at none ≡ seen None 0) where
   pub left_same : (k : ℕ) (s : Slim) → SlimAt k s → (t : Tree Pair) → Within k t → W (left_part (stripe_by s)) t ≡ W (stripe_by (left_slim s)) t
   left_same zero s h none w = empty _ ∙ sym (empty _)
   left_same zero s h (fork n p l r) w = absurd w

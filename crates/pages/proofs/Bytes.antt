@@ -1,9 +1,12 @@
 -- Bytes stored one after the other from a place on: words, rows, the whole book. The whole book assumes room for it.
-use Prim.Native.Nat.{ℕ, suc, ◌+◌, ◌*◌, ◌/◌, ◌%◌, ◌≤◌}
+use Prim.Native.Nat.{ℕ, ◌+◌, ◌*◌, ◌≤◌}
 use mathlib.Core.Path.{◌≡◌, refl, sym, ◌∙◌}
 use mathlib.Core.List.{List, [], ◌∷◌, ◌++◌}
 use native.Mathlib.Omega.{arith}
 use lib.ListN.{length, set, drop}
+use lib.Seq.{sets-eq}
+use borrow.Rule.Slice.PartMut.{put_mid}
+use Rattle.std.proofs.lemmas.Slice.{put_mid-paste}
 use Rattle.kinds.specs.declared.Pair.{Pair}
 use Rattle.kinds.specs.Placed.{placed}
 use Rattle.kinds.proofs.Placing.{placed_append, placed_start}
@@ -11,15 +14,10 @@ use Rattle.pages.specs.Book.{word, by_x, version_one, body, bytes_for, book_byte
 use Rattle.pages.specs.Writing.{head_bytes, header_of}
 use Rattle.pages.proofs.Ascending.{length_by_x}
 
--- law: four bytes are a word
-pub one_word : (o : List ℕ) (at n : ℕ)
-    → set (set (set (set o at (n / 16777216 % 256)) (at + 1) (n / 65536 % 256)) (at + 2) (n / 256 % 256)) (at + 3) (n % 256) ≡ placed o at (word n)
+-- law: the bytes of a number, written over a range of four, are a word
+pub one_word : (o d : List ℕ) (at k n : ℕ) → at + 4 ≤ length o → k ≡ 4 → d ≡ word n → put_mid at k o d ≡ placed o at (word n)
 unfolding placed
-one_word o at n =
-    let a : at + 1 ≡ suc at = omega arith in
-    let b : at + 2 ≡ suc (suc at) = omega arith in
-    let d : at + 3 ≡ suc (suc (suc at)) = omega arith in
-    rw (a, b, d)
+one_word o d at k n h z e = put_mid-paste at k o d (word n) 4 e (sym z) refl ∙ sym (sets-eq (word n) o at h)
 
 -- law: a word and the version are the header
 pub one_head : (o o1 : List ℕ) (n : ℕ) → o1 ≡ placed o 0 (word (1 + version_one.per_row * n)) → set o1 4 version_one.version ≡ placed o 0 (header_of version_one n)

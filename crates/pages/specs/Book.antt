@@ -3,7 +3,7 @@ use Rattle.std.specs.Prelude.{ℕ, ◌+◌, ◌*◌, ◌/◌, ◌%◌, ◌<◌, 
 use mathlib.Core.List.{List, [], ◌∷◌, ◌++◌, Memᴰ}
 use Rattle.kinds.specs.declared.Pair.{Pair}
 use Rattle.kinds.specs.Answer.{finished}
-use Rattle.kinds.specs.Codes as codes
+use Rattle.kinds.specs.declared.Refusal.TheVariants.{Short}
 use Rattle.kinds.specs.Promise.{Line}
 use Rattle.plain.specs.Books.{Book, Plainly, values}
 
@@ -55,7 +55,7 @@ book_bytes f ps = word (1 + f.per_row * length ps) ++ (f.version ∷ body f (by_
 
 -- 11: fewer bytes than the book has
 abbrev pub short_line : Form → (bytes : List ℕ) → Book → Line
-short_line f bytes b = record { code = codes.short; when = ltb (length bytes) (bytes_for f (length b.pairs)) }
+short_line f bytes b = record { refusal = Short; when = ltb (length bytes) (bytes_for f (length b.pairs)) }
 
 -- writing the book over a plain list
 unfoldable pub plain_save : Form → (bytes : List ℕ) → Book → Plainly

@@ -25,10 +25,7 @@ fn put_word(bytes: &mut [u8], at: usize, n: u32)
     requires { at + 4 ≤ length bytes.old }
     ensures { bytes.new ≡ placed bytes.old at (word n) }
 {
-    bytes[at] = (n / 16777216 % 256) as u8;
-    bytes[at + 1] = (n / 65536 % 256) as u8;
-    bytes[at + 2] = (n / 256 % 256) as u8;
-    bytes[at + 3] = (n % 256) as u8;
+    bytes[at..at + WORD].copy_from_slice(&n.to_be_bytes());
 }
 
 // The number of bytes that follow, and the version.

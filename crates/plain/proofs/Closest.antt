@@ -1,5 +1,6 @@
 -- Which of two findings is the closer, and what a scan keeps by it. What a scan keeps assumes that the closer of two pairs ranks them (`Ranks`),
 -- as in each of the three questions.
+use Rattle.std.specs.Prelude.{Option, Some, None}
 use mathlib.Core.Path.{◌≡◌, refl, sym, ap, ◌∙◌}
 use mathlib.Core.Logic.{◌≢◌, ◌⊎◌, inl, inr}
 use mathlib.Core.Bool.{Bool, true, false, not}
@@ -7,8 +8,6 @@ use mathlib.Core.List.{List, [], ◌∷◌, ◌++◌}
 use native.Mathlib.Omega.{arith}
 use borrow.Author.Tests.{ltb-true, ltb-false, le-ltb}
 use Rattle.kinds.specs.declared.Pair.{Pair}
-use Rattle.kinds.specs.declared.Finding.{Finding}
-use Rattle.kinds.specs.declared.Finding.TheVariants.{Found, Nothing}
 use Rattle.kinds.specs.Pairs.{beats}
 use Rattle.plain.specs.Plain.{own, closest, scan, smaller, larger}
 use Rattle.kinds.proofs.Tests.{test, on, clash}
@@ -47,22 +46,22 @@ by_beats = record {
 }
 
 -- P holds of what is found, if anything is
-pub data Sat (P : Pair → Type 0) : Finding → Type 0 where
-  sat_none : Sat P Nothing
-  sat_one : {p : Pair} → P p → Sat P (Found p)
+pub data Sat (P : Pair → Type 0) : Option Pair → Type 0 where
+  sat_none : Sat P None
+  sat_one : {p : Pair} → P p → Sat P (Some p)
 
 -- what holds whatever `closer` is
-pub closest_nothing : (closer : Pair → Pair → Bool) (f : Finding) → closest closer f Nothing ≡ f
-closest_nothing closer Nothing = refl
-closest_nothing closer (Found p) = refl
+pub closest_nothing : (closer : Pair → Pair → Bool) (f : Option Pair) → closest closer f None ≡ f
+closest_nothing closer None = refl
+closest_nothing closer (Some p) = refl
 
 module _ (ok : Pair → Bool) (closer : Pair → Pair → Bool) where
-  pub scan_append : (f : Finding) (u v : List Pair) → scan ok closer f (u ++ v) ≡ scan ok closer (scan ok closer f u) v
+  pub scan_append : (f : Option Pair) (u v : List Pair) → scan ok closer f (u ++ v) ≡ scan ok closer (scan ok closer f u) v
   scan_append f [] v = refl
   scan_append f (p ∷ u) v = scan_append (closest closer f (own ok p)) u v
 
   module _ (P : Pair → Type 0) where
-    pub closest_sat : {f g : Finding} → Sat P f → Sat P g → Sat P (closest closer f g)
+    pub closest_sat : {f g : Option Pair} → Sat P f → Sat P g → Sat P (closest closer f g)
     closest_sat sat_none k = k
     closest_sat (sat_one h) sat_none = sat_one h
     closest_sat (sat_one {p} h) (sat_one {p = q} k) = on (closer q p) (λ e. rw e (sat_one k)) (λ e. rw e (sat_one h))
@@ -71,16 +70,16 @@ module _ (ok : Pair → Bool) (closer : Pair → Pair → Bool) where
     own_sat p h = on (ok p) (λ e. rw e (sat_one h)) (λ e. rw e sat_none)
 
   -- the first is kept where nothing of the second is closer; the order of two does not matter where one is the closer
-  pub closest_first : {p : Pair} {g : Finding} → Sat (λ q. closer q p ≡ false) g → closest closer (Found p) g ≡ Found p
+  pub closest_first : {p : Pair} {g : Option Pair} → Sat (λ q. closer q p ≡ false) g → closest closer (Some p) g ≡ Some p
   closest_first sat_none = refl
   closest_first (sat_one h) = rw h
 
-  pub closest_swap : (p : Pair) {f : Finding} → Sat (λ q. closer q p ≡ not (closer p q)) f
+  pub closest_swap : (p : Pair) {f : Option Pair} → Sat (λ q. closer q p ≡ not (closer p q)) f
       → closest closer f (own ok p) ≡ closest closer (own ok p) f
   closest_swap p sat_none = sym (closest_nothing closer _)
   closest_swap p (sat_one {p = q} h) = on (ok p) (λ o. rw o (on (closer p q) (λ e. rw (h, e)) (λ e. rw (h, e)))) (λ o. rw o)
 
-  pub closest_comm : {f g : Finding} → Sat (λ v. Sat (λ w. closer w v ≡ not (closer v w)) g) f → closest closer f g ≡ closest closer g f
+  pub closest_comm : {f g : Option Pair} → Sat (λ v. Sat (λ w. closer w v ≡ not (closer v w)) g) f → closest closer f g ≡ closest closer g f
   closest_comm sat_none = sym (closest_nothing closer _)
   closest_comm (sat_one sat_none) = refl
   closest_comm (sat_one {p = v} (sat_one {p = w} h)) = on (closer v w) (λ e. rw (h, e)) (λ e. rw (h, e))
@@ -93,14 +92,14 @@ module _ (ok : Pair → Bool) {closer : Pair → Pair → Bool} (R : Ranks close
   pub one_way : (p q : Pair) → p.x ≢ q.x → closer q p ≡ not (closer p q)
   one_way p q d = on (closer p q) (λ e. rw e (R.asym p q e)) (λ e. rw e (on (closer q p) (λ t. t) (λ f. absurd (d (R.tie p q e f)))))
 
-  pub closest_assoc : (f g h : Finding) → closest closer (closest closer f g) h ≡ closest closer f (closest closer g h)
-  closest_assoc Nothing g h = refl
-  closest_assoc (Found p) Nothing h = refl
-  closest_assoc (Found p) (Found q) Nothing = closest_nothing closer (closest closer (Found p) (Found q))
-  closest_assoc (Found p) (Found q) (Found r) = go (test (closer q p)) (test (closer r q))
+  pub closest_assoc : (f g h : Option Pair) → closest closer (closest closer f g) h ≡ closest closer f (closest closer g h)
+  closest_assoc None g h = refl
+  closest_assoc (Some p) None h = refl
+  closest_assoc (Some p) (Some q) None = closest_nothing closer (closest closer (Some p) (Some q))
+  closest_assoc (Some p) (Some q) (Some r) = go (test (closer q p)) (test (closer r q))
     where
       go : (closer q p ≡ true) ⊎ (closer q p ≡ false) → (closer r q ≡ true) ⊎ (closer r q ≡ false)
-          → closest closer (closest closer (Found p) (Found q)) (Found r) ≡ closest closer (Found p) (closest closer (Found q) (Found r))
+          → closest closer (closest closer (Some p) (Some q)) (Some r) ≡ closest closer (Some p) (closest closer (Some q) (Some r))
       go (inl a) (inl b) = rw (a, b, up p q r b a)
       go (inl a) (inr b) = rw (a, b, a)
       go (inr a) (inl b) = rw (a, b)

@@ -5,13 +5,14 @@ use mathlib.Core.Path.{◌≡◌, refl}
 use mathlib.Core.List.{List, [], ◌∷◌, map}
 use Rattle.kinds.specs.declared.Limits.{Limits}
 use Rattle.kinds.specs.declared.Pair.{Pair}
+use Rattle.kinds.specs.Codes.{number_of}
 use Rattle.kinds.specs.Promise.{Line}
 use Rattle.plain.specs.Books.{Book, Plainly, plain_insert, plain_delete, plain_smallest_x, plain_largest_x, plain_smallest_y, plain_listing}
 use Rattle.plain.specs.Strips.{plain_open, plain_close, plain_first, plain_last, plain_earliest, plain_covers, plain_meets, plain_contains}
 
 -- the codes of a call's lines
 abbrev pub codes_of : Plainly → List ℕ
-codes_of k = map (λ (l : Line). l.code) k.lines
+codes_of k = map (λ (l : Line). number_of l.refusal) k.lines
 
 module _ (b : Book) where
   pub insert_codes : (p : Pair) → codes_of (plain_insert p b) ≡ 4 ∷ 5 ∷ []

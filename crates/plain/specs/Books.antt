@@ -1,12 +1,11 @@
 -- The calls over a plain list, as a pencil goes through it: what each refuses, what it ends with, and which pairs then stand in the list.
-use Rattle.std.specs.Prelude.{ℕ, min, not, ◌&&◌, List, [], ◌∷◌, eqb, leb, ltb, length}
-use Rattle.kinds.specs.declared.Finding.{Finding}
+use Rattle.std.specs.Prelude.{ℕ, min, not, ◌&&◌, List, [], ◌∷◌, eqb, leb, ltb, length, Option}
 use Rattle.kinds.specs.declared.Limits.{Limits}
 use Rattle.kinds.specs.declared.Outcome.{Outcome}
 use Rattle.kinds.specs.declared.Outcome.TheVariants.{Listed}
 use Rattle.kinds.specs.declared.Pair.{Pair}
 use Rattle.kinds.specs.Answer.{finished, outcome_of}
-use Rattle.kinds.specs.Codes as codes
+use Rattle.kinds.specs.declared.Refusal.TheVariants.{Taken, Full, Missing, Other, Backwards}
 use Rattle.kinds.specs.Promise.{Line, Promise}
 use Rattle.plain.specs.Plain.{matches, those, has_x, has, smallest_x_of, largest_x_of, smallest_y_of}
 
@@ -37,7 +36,7 @@ abbrev pub leaves : List Line → List Pair → Plainly
 leaves ls ps = record { lines = ls; outcome = finished.outcome; pairs = ps; writing = nothing }
 
 -- a question for one pair leaves the list, and ends with what it found
-abbrev pub finds : List Line → Finding → Book → Plainly
+abbrev pub finds : List Line → Option Pair → Book → Plainly
 finds ls f b = record { lines = ls; outcome = outcome_of f; pairs = b.pairs; writing = nothing }
 
 -- a listing counts the pairs that match, up to its room, and says whether there are more
@@ -47,23 +46,23 @@ lists ls room ps b =
 
 -- 4: x stands in the list, with whatever y
 abbrev pub taken_line : Pair → Book → Line
-taken_line p b = record { code = codes.taken; when = has_x p.x b.pairs }
+taken_line p b = record { refusal = Taken; when = has_x p.x b.pairs }
 
 -- 5: there are as many pairs as there is room for
 abbrev pub full_line : Book → Line
-full_line b = record { code = codes.full; when = leb b.room (length b.pairs) }
+full_line b = record { refusal = Full; when = leb b.room (length b.pairs) }
 
 -- 6: x does not stand in the list
 abbrev pub missing_line : Pair → Book → Line
-missing_line p b = record { code = codes.missing; when = not (has_x p.x b.pairs) }
+missing_line p b = record { refusal = Missing; when = not (has_x p.x b.pairs) }
 
 -- 7: x stands there with another y
 abbrev pub other_line : Pair → Book → Line
-other_line p b = record { code = codes.other; when = has_x p.x b.pairs && not (has p b.pairs) }
+other_line p b = record { refusal = Other; when = has_x p.x b.pairs && not (has p b.pairs) }
 
 -- 3: x0 > x1
 abbrev pub backwards_line : (x0 x1 : ℕ) → Line
-backwards_line x0 x1 = record { code = codes.backwards; when = ltb x1 x0 }
+backwards_line x0 x1 = record { refusal = Backwards; when = ltb x1 x0 }
 
 -- the pairs but for the one with this x
 abbrev pub without : ℕ → List Pair → List Pair

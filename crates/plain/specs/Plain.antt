@@ -1,10 +1,8 @@
 -- A book as a plain list of pairs, gone through from top to bottom: what each question finds. Nothing of the tree stands here.
-use Rattle.std.specs.Prelude.{ℕ, ◌≡◌, ◌≢◌, ◌↔◌, Bool, true, false, cond, ◌&&◌, ◌||◌, ltb, leb, eqb}
+use Rattle.std.specs.Prelude.{ℕ, ◌≡◌, ◌≢◌, ◌↔◌, Bool, true, false, cond, ◌&&◌, ◌||◌, ltb, leb, eqb, Option, Some, None}
 use mathlib.Core.List.{List, [], ◌∷◌, Memᴰ}
 use Rattle.kinds.specs.declared.Pair.{Pair}
 use Rattle.kinds.specs.declared.Limits.{Limits}
-use Rattle.kinds.specs.declared.Finding.{Finding}
-use Rattle.kinds.specs.declared.Finding.TheVariants.{Found, Nothing}
 use Rattle.kinds.specs.Pairs.{beats}
 
 -- x0 ≤ x ≤ x1
@@ -20,17 +18,17 @@ abbrev pub matches : Limits → Pair → Bool
 matches q p = in_range q.x0 q.x1 p && leb p.y q.y1
 
 -- the pair, where it is one that is asked for
-abbrev pub own : (Pair → Bool) → Pair → Finding
-own ok p = cond (ok p) (Found p) Nothing
+abbrev pub own : (Pair → Bool) → Pair → Option Pair
+own ok p = cond (ok p) (Some p) None
 
 -- of two findings the first, unless the second is closer to what is asked
-abbrev pub closest : (Pair → Pair → Bool) → Finding → Finding → Finding
-closest closer Nothing g = g
-closest closer (Found p) Nothing = Found p
-closest closer (Found p) (Found q) = cond (closer q p) (Found q) (Found p)
+abbrev pub closest : (Pair → Pair → Bool) → Option Pair → Option Pair → Option Pair
+closest closer None g = g
+closest closer (Some p) None = Some p
+closest closer (Some p) (Some q) = cond (closer q p) (Some q) (Some p)
 
 -- from the list's top to its bottom, the closest so far
-abbrev pub scan : (Pair → Bool) → (Pair → Pair → Bool) → Finding → List Pair → Finding
+abbrev pub scan : (Pair → Bool) → (Pair → Pair → Bool) → Option Pair → List Pair → Option Pair
 scan ok closer f [] = f
 scan ok closer f (p ∷ ps) = scan ok closer (closest closer f (own ok p)) ps
 
@@ -43,16 +41,16 @@ abbrev pub larger : Pair → Pair → Bool
 larger p q = ltb q.x p.x
 
 -- of the pairs that match, the one with the smallest x
-unfoldable pub smallest_x_of : Limits → List Pair → Finding
-smallest_x_of q ps = scan (matches q) smaller Nothing ps
+unfoldable pub smallest_x_of : Limits → List Pair → Option Pair
+smallest_x_of q ps = scan (matches q) smaller None ps
 
 -- of the pairs that match, the one with the largest x
-unfoldable pub largest_x_of : Limits → List Pair → Finding
-largest_x_of q ps = scan (matches q) larger Nothing ps
+unfoldable pub largest_x_of : Limits → List Pair → Option Pair
+largest_x_of q ps = scan (matches q) larger None ps
 
 -- of the pairs with x0 ≤ x ≤ x1, the one with the smallest y; on equal y the one with the smaller x
-unfoldable pub smallest_y_of : ℕ → ℕ → List Pair → Finding
-smallest_y_of x0 x1 ps = scan (in_range x0 x1) beats Nothing ps
+unfoldable pub smallest_y_of : ℕ → ℕ → List Pair → Option Pair
+smallest_y_of x0 x1 ps = scan (in_range x0 x1) beats None ps
 
 -- the pairs for which a test holds, in the list's order
 abbrev pub those : (Pair → Bool) → List Pair → List Pair

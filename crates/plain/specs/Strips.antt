@@ -2,7 +2,7 @@
 use Rattle.std.specs.Prelude.{ℕ, ◌+◌, ◌*◌, ◌/◌, ◌%◌, ◌≤◌, Bool, ◌||◌, List, [], ◌∷◌, ◌++◌, ltb}
 use Rattle.kinds.specs.declared.Limits.{Limits}
 use Rattle.kinds.specs.declared.Pair.{Pair}
-use Rattle.kinds.specs.Codes as codes
+use Rattle.kinds.specs.declared.Refusal.TheVariants.{NoStrip, Backwards}
 use Rattle.kinds.specs.Promise.{Line}
 use Rattle.plain.specs.Plain.{matches, those, smallest_x_of, largest_x_of, smallest_y_of}
 use Rattle.plain.specs.Books.{Book, Plainly, leaves, finds, lists, without, taken_line, full_line, missing_line, other_line}
@@ -66,11 +66,11 @@ contains_limits u v = record { x0 = v * 65536; x1 = 4294967295; y1 = u }
 
 -- 9: a start, end, number or asked slot over 65,535, or start > end
 abbrev pub strip_line : Bool → Line
-strip_line bad = record { code = codes.no_strip; when = bad }
+strip_line bad = record { refusal = NoStrip; when = bad }
 
 -- 3: v < u, or e < u
 abbrev pub order_line : ℕ → ℕ → Line
-order_line u v = record { code = codes.backwards; when = ltb v u }
+order_line u v = record { refusal = Backwards; when = ltb v u }
 
 -- the lines of opening and closing that come before the pair's own
 abbrev pub strip_lines : (start end number : ℕ) → List Line

@@ -6,6 +6,7 @@ use mathlib.Core.List.{List, [], ◌∷◌}
 use native.Mathlib.Omega.{arith}
 use borrow.Author.Tests.{not-false}
 use lib.ListN.{length, length-take}
+use Rattle.kinds.specs.declared.Refusal.{Refusal}
 use Rattle.kinds.specs.declared.Answer.{Answer}
 use Rattle.kinds.specs.declared.Limits.{Limits}
 use Rattle.kinds.specs.Answer.{refused}
@@ -32,19 +33,19 @@ use Rattle.promises.proofs.Asked.{matches_count}
 use Rattle.pool.specs.Showing.{VisitsWithin, FewVisits}
 
 -- what a table answers has a property that refusals have, if what it makes has it where no line holds
-table_has : (P : Answer → Type 0) → ((k : ℕ) → P (refused k)) → (ls : List Line) (c out : List ℕ) (made : Result) → (NoLine ls → P made.answer)
+table_has : (P : Answer → Type 0) → ((k : Refusal) → P (refused k)) → (ls : List Line) (c out : List ℕ) (made : Result) → (NoLine ls → P made.answer)
     → P (by_lines ls c out made).answer
 unfolding by_lines
 table_has P r [] c out made h = h tt
 table_has P r (l ∷ ls) c out made h =
-    on l.when (λ t. rw t (r l.code)) (λ f. rw f (table_has P r ls c out made (λ n. h (f, n))))
+    on l.when (λ t. rw t (r l.refusal)) (λ f. rw f (table_has P r ls c out made (λ n. h (f, n))))
 
 -- law: so it is behind the check, if what is made has it on a sound pool
-pub entry_has : (P : Answer → Type 0) → ((k : ℕ) → P (refused k)) → (Q : Promise) (c out : List ℕ) → (Sound c → P Q.made.answer)
+pub entry_has : (P : Answer → Type 0) → ((k : Refusal) → P (refused k)) → (Q : Promise) (c out : List ℕ) → (Sound c → P Q.made.answer)
     → P (given (behind_check c Q) c out).answer
 entry_has P r Q c out h = table_has P r (behind_check c Q).lines c out Q.made (λ n. h (test_sound c (not-false _ n.1.0)))
 
-refused_within : (n k : ℕ) → VisitsWithin n (refused k)
+refused_within : (n : ℕ) (k : Refusal) → VisitsWithin n (refused k)
 refused_within n k = rw (refused_numbers k) (omega arith)
 
 reported : (a : Answer) (n : ℕ) → a.visits ≤ n → VisitsWithin n a
@@ -54,7 +55,7 @@ reported a n h = let k = five_visits a in omega arith
 pub entry_bound : (Q : Promise) (c out : List ℕ) (n : ℕ) → (Sound c → Q.made.answer.visits ≤ n) → VisitsWithin n (given (behind_check c Q) c out).answer
 entry_bound Q c out n h = entry_has (VisitsWithin n) (refused_within n) Q c out (λ s. reported Q.made.answer n (h s))
 
-refused_few : (k : ℕ) → FewVisits (refused k)
+refused_few : (k : Refusal) → FewVisits (refused k)
 refused_few k = rw (refused_numbers k) (omega arith)
 
 -- what is listed reports its count

@@ -5,7 +5,6 @@ use mathlib.Core.Path.{◌≡◌, refl, sym, ap, ◌∙◌}
 use mathlib.Core.Logic.{◌≢◌, ◌↔◌, ◌⊎◌}
 use mathlib.Core.Bool.{true, false, not}
 use mathlib.Core.List.{List, [], Memᴰ}
-use native.Mathlib.Omega.{arith}
 use borrow.Author.Tests.{eqb-false, ne_eqb, not-false}
 use Rattle.kinds.specs.declared.Pair.{Pair}
 use Rattle.kinds.specs.Answer.{five, numbers_of}
@@ -44,11 +43,11 @@ module _ (c : List ℕ) (p : Pair) where
 
   pub insert_view : Decided (behind_check c (insertion c p)).lines c [] (insertion c p).made insert_gives
   unfolding insertion plain_insert
-  insert_view = table_decided _ c [] _ (omega arith, (omega arith, (omega arith, (omega arith, tt))))
+  insert_view = table_decided _ c [] _
 
   pub delete_view : Decided (behind_check c (deletion c p)).lines c [] (deletion c p).made delete_gives
   unfolding deletion plain_delete
-  delete_view = table_decided _ c [] _ (omega arith, (omega arith, (omega arith, (omega arith, tt))))
+  delete_view = table_decided _ c [] _
 
   -- where no line holds
   pub insert_enters : NoLine (behind_check c (insertion c p)).lines → Enters c p

@@ -1,6 +1,7 @@
 -- Laws about the cells of a pool: soundness decided, the stored list, and the cells after a change.
 pub mod Leads
 pub mod Decided
+pub mod Held
 pub mod Fresh
 pub mod Pigeonhole
 pub mod Agreement

@@ -13,7 +13,8 @@ use Rattle.kinds.specs.Answer.{five}
 use Rattle.line.specs.Line.{space}
 use Rattle.text.specs.Text.{newline, item, row, match_rows}
 use Rattle.text.specs.Writing.{Puts, strip_items}
-use Rattle.text.proofs.Printing.{puts_then, append_assoc}
+use Rattle.std.proofs.Common.{append_assoc}
+use Rattle.text.proofs.Printing.{puts_then}
 use Rattle.prints.specs.Rows.{found_row, list_rows}
 
 -- law: what may be too short

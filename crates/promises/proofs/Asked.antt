@@ -1,12 +1,13 @@
 -- What the questions give on a sound pool: a walk finds what the scan of the stored list finds, and as many match in its order as in the list's.
+use Rattle.std.specs.Prelude.{Option, Ok}
 use Prim.Native.Nat.{ℕ}
-use mathlib.Core.Path.{◌≡◌, refl, ap, ◌∙◌}
+use mathlib.Core.Path.{◌≡◌, refl, ap}
 use mathlib.Core.List.{List, []}
 use lib.ListN.{length}
-use Rattle.kinds.specs.declared.Answer.{Answer}
 use Rattle.kinds.specs.declared.Limits.{Limits}
 use Rattle.kinds.specs.declared.Walked.{Walked}
-use Rattle.kinds.specs.declared.Finding.{Finding}
+use Rattle.kinds.specs.declared.Pair.{Pair}
+use Rattle.kinds.specs.Answer.{walked}
 use Rattle.kinds.specs.Making.{answered}
 use Rattle.kinds.specs.Promise.{Gives}
 use Rattle.stripes.specs.Stripe.{root_stripe}
@@ -22,23 +23,22 @@ use Rattle.pools.proofs.InTree.{tree_well, tree_stored, members_stored, members_
 use Rattle.pools.proofs.Stored.{stored_apart}
 
 -- a walk's answer, whatever it finds
-walk_gives : {c : List ℕ} {r : Answer} (w : Walked) (f : Finding) → w.finding ≡ f → r ≡ answered w.finding w.visits
-    → Gives (record { answer = answered f w.visits; cells = c; lent = [] }) r c []
-walk_gives w f e er = gives (er ∙ ap (λ g. answered g w.visits) e) refl refl
+walk_gives : {c : List ℕ} (w : Walked) (f : Option Pair) → w.finding ≡ f
+    → Gives (record { answer = answered f w.visits; cells = c; lent = [] }) (walked (Ok w)) c []
+walk_gives w f e = gives (ap (λ g. answered g w.visits) e) refl refl
 
 module _ {c : List ℕ} (s : Sound c) where
-  pub smallest_x_gives : (q : Limits) {w : Walked} {r : Answer} → w ≡ smallest_x q root_stripe (tree_of c) → r ≡ answered w.finding w.visits
-      → Gives (record { answer = answered (smallest_x_of q (stored c)) (smallest_x q root_stripe (tree_of c)).visits; cells = c; lent = [] }) r c []
-  smallest_x_gives q e er = walk_gives (smallest_x q root_stripe (tree_of c)) _ (smallest_x_any root_stripe (tree_of c) (tree_well s) (stored c) (tree_stored s) q) (rw e at er)
+  pub smallest_x_gives : (q : Limits) {w : Walked} → w ≡ smallest_x q root_stripe (tree_of c)
+      → Gives (record { answer = answered (smallest_x_of q (stored c)) (smallest_x q root_stripe (tree_of c)).visits; cells = c; lent = [] }) (walked (Ok w)) c []
+  smallest_x_gives q e = rw e (walk_gives (smallest_x q root_stripe (tree_of c)) _ (smallest_x_any root_stripe (tree_of c) (tree_well s) (stored c) (tree_stored s) q))
 
-  pub largest_x_gives : (q : Limits) {w : Walked} {r : Answer} → w ≡ largest_x q root_stripe (tree_of c) → r ≡ answered w.finding w.visits
-      → Gives (record { answer = answered (largest_x_of q (stored c)) (largest_x q root_stripe (tree_of c)).visits; cells = c; lent = [] }) r c []
-  largest_x_gives q e er = walk_gives (largest_x q root_stripe (tree_of c)) _ (largest_x_any root_stripe (tree_of c) (tree_well s) (stored c) (tree_stored s) q) (rw e at er)
+  pub largest_x_gives : (q : Limits) {w : Walked} → w ≡ largest_x q root_stripe (tree_of c)
+      → Gives (record { answer = answered (largest_x_of q (stored c)) (largest_x q root_stripe (tree_of c)).visits; cells = c; lent = [] }) (walked (Ok w)) c []
+  largest_x_gives q e = rw e (walk_gives (largest_x q root_stripe (tree_of c)) _ (largest_x_any root_stripe (tree_of c) (tree_well s) (stored c) (tree_stored s) q))
 
-  pub smallest_y_gives : (x0 x1 : ℕ) {w : Walked} {r : Answer} → w ≡ smallest_y x0 x1 root_stripe (tree_of c) → r ≡ answered w.finding w.visits
-      → Gives (record { answer = answered (smallest_y_of x0 x1 (stored c)) (smallest_y x0 x1 root_stripe (tree_of c)).visits; cells = c; lent = [] }) r c []
-  smallest_y_gives x0 x1 e er =
-      walk_gives (smallest_y x0 x1 root_stripe (tree_of c)) _ (smallest_y_any root_stripe (tree_of c) (tree_well s) (stored c) (tree_stored s) x0 x1) (rw e at er)
+  pub smallest_y_gives : (x0 x1 : ℕ) {w : Walked} → w ≡ smallest_y x0 x1 root_stripe (tree_of c)
+      → Gives (record { answer = answered (smallest_y_of x0 x1 (stored c)) (smallest_y x0 x1 root_stripe (tree_of c)).visits; cells = c; lent = [] }) (walked (Ok w)) c []
+  smallest_y_gives x0 x1 e = rw e (walk_gives (smallest_y x0 x1 root_stripe (tree_of c)) _ (smallest_y_any root_stripe (tree_of c) (tree_well s) (stored c) (tree_stored s) x0 x1))
 
   -- law: as many matches in the walk's order as in the list
   pub matches_count : (q : Limits) → length (those (matches q) (members (tree_of c))) ≡ length (those (matches q) (stored c))

@@ -3,28 +3,25 @@
 
 ghost use Rattle.std.specs.Prelude.{◌≡◌};
 ghost use Rattle.plain.specs.Plain.{in_range};
-ghost use Rattle.questions.specs.Walking.{found_at, Some};
+ghost use Rattle.questions.specs.Walking.{found_at, IsLink};
 
-use kinds::{Finding, Pair};
+use kinds::Pair;
 
 // What a walk has found, read from its slot.
 #[tactic(auto, unfolding(crate::specs::Walking::found_at))]
-pub fn found_at(pool: &[u32], slot: u32) -> Finding
-    requires { Some pool.now slot }
+pub fn found_at(pool: &[u32], slot: u32) -> Option<Pair>
+    requires { IsLink pool.now slot }
     ensures { result ≡ found_at pool.now slot }
 {
     if slot == 0 {
-        return Finding::Nothing;
+        return None;
     }
-    Finding::Found(cells::pair(pool, slot))
+    Some(cells::pair(pool, slot))
 }
 
 // Whether the pair's x is in range.
 pub fn in_range(p: Pair, x0: u32, x1: u32) -> bool
     ensures { result ≡ in_range x0 x1 p }
 {
-    if p.x < x0 {
-        return false;
-    }
-    p.x <= x1
+    x0 <= p.x && p.x <= x1
 }

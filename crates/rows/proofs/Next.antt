@@ -1,5 +1,6 @@
 -- The loop over the stored pairs, a turn at a time: what the walk finds is the first of those still to be written. It assumes a sound pool whose
 -- cells are of 32 bits.
+use Rattle.std.specs.Prelude.{Option, Some, None}
 use Prim.Native.Nat.{ℕ, zero, suc, ◌+◌, ◌*◌, ◌≤◌, ◌<◌}
 use mathlib.Core.Path.{◌≡◌, refl, sym, ap, ◌∙◌}
 use mathlib.Core.Logic.{⊎_elim}
@@ -12,7 +13,6 @@ use mir.Val.{Fits}
 use lib.Dec.{leb}
 use lib.ListN.{length, get_or}
 use borrow.Author.Tests.{ltb-false, le-leb, lt-leb, leb-true, leb-false}
-use Rattle.kinds.specs.declared.Finding.TheVariants.{Found, Nothing}
 use Rattle.kinds.specs.declared.Pair.{Pair}
 use Rattle.kinds.specs.declared.Walked.{Walked}
 use Rattle.pools.specs.Cells.{per_slot, is_free, root_of, stored_from, stored, tree_at}
@@ -48,6 +48,13 @@ none_left : (x0 : ℕ) (ps : List Pair) → ((q : Pair) → Memᴰ q ps → q.x 
 none_left x0 [] h = refl
 none_left x0 (p ∷ ps) h = rw (lt-leb x0 p.x (h p (Memᴰ.head refl))) (none_left x0 ps (λ q m. h q (Memᴰ.tail m)))
 
+module _ (c : List ℕ) (S : Sound c) (x0 : ℕ) where
+  -- law: the walk finds what a scan of the stored pairs finds
+  pub walk_finds : {w : Walked} → w ≡ smallest_x (limits x0 last_x last_x) root_stripe (tree_at c all_levels (root_of c))
+      → w.finding ≡ smallest_x_of (limits x0 last_x last_x) (stored c)
+  walk_finds ew = ap (λ w. w.finding) ew ∙ rw (sound_tree c S)
+      (smallest_x_any root_stripe S.tree (sound_well c S) (stored c) (λ p. ((stored_mem S p).1, (stored_mem S p).0)) (limits x0 last_x last_x))
+
 module _ (c : List ℕ) (W : Words c) where
   from_words : (k s : ℕ) (q : Pair) → Memᴰ q (stored_from c k s) → (q.x ≤ last_x) × (q.y ≤ last_x)
   unfolding stored_from
@@ -67,20 +74,16 @@ module _ (c : List ℕ) (W : Words c) where
         let b = from_words _ 1 q m in
         and_true (and_true (le-leb x0 q.x h) (le-leb q.x last_x b.0)) (le-leb q.y last_x b.1)
 
-    module _ (w : Walked) (ew : w ≡ smallest_x (limits x0 last_x last_x) root_stripe (tree_at c all_levels (root_of c))) where
-      walked : w.finding ≡ smallest_x_of (limits x0 last_x last_x) (stored c)
-      walked = ap (λ w. w.finding) ew ∙ rw (sound_tree c S)
-          (smallest_x_any root_stripe S.tree (sound_well c S) (stored c) (λ p. ((stored_mem S p).1, (stored_mem S p).0)) (limits x0 last_x last_x))
-
+    module _ {f : Option Pair} (ef : f ≡ smallest_x_of (limits x0 last_x last_x) (stored c)) where
       -- law: where it finds nothing, nothing is left to write
-      pub nothing_left : w.finding ≡ Nothing → to_write c x0 ≡ []
+      pub nothing_left : f ≡ None → to_write c x0 ≡ []
       nothing_left e =
-          let N = (smallest_x_of_nothing (stored c) (limits x0 last_x last_x)).0 (sym walked ∙ e) in
+          let N = (smallest_x_of_nothing (stored c) (limits x0 last_x last_x)).0 (sym ef ∙ e) in
           none_above x0 (λ q m. on (leb x0 q.x) (λ t. absurd (clash (matching q m (leb-true x0 q.x t)) (N q m))) (λ t. leb-false x0 q.x t))
 
-      module _ (p : Pair) (e : w.finding ≡ Found p) where
+      module _ (p : Pair) (e : f ≡ Some p) where
         closest : Closest (matches (limits x0 last_x last_x)) smaller (stored c) p
-        closest = (smallest_x_of_found (stored c) (stored_apart S) p (limits x0 last_x last_x)).0 (sym walked ∙ e)
+        closest = (smallest_x_of_found (stored c) (stored_apart S) p (limits x0 last_x last_x)).0 (sym ef ∙ e)
 
         -- law: what it finds is the next to write
         pub next_pair : to_write c x0 ≡ p ∷ to_write c (p.x + 1)

@@ -78,11 +78,11 @@ module _ (c : List ℕ) (n : Named) where
 
   open_view : Decided (promised c (opens n)).lines c [] (promised c (opens n)).made (play c (opens n))
   unfolding promised opening plain_open
-  open_view = table_decided _ c [] _ (omega arith, (omega arith, (omega arith, (omega arith, (omega arith, tt)))))
+  open_view = table_decided _ c [] _
 
   close_view : Decided (promised c (closes n)).lines c [] (promised c (closes n)).made (play c (closes n))
   unfolding promised closing plain_close
-  close_view = table_decided _ c [] _ (omega arith, (omega arith, (omega arith, (omega arith, (omega arith, tt)))))
+  close_view = table_decided _ c [] _
 
   open_good : accepted (play c (opens n)) ≡ true → bad ≡ false
   unfolding promised opening plain_open
@@ -175,7 +175,7 @@ module _ (c : List ℕ) where
 
   set_up_view : Decided (check_first.set_up c).lines c [] (check_first.set_up c).made (play c set_up)
   unfolding promised check_first.set_up
-  set_up_view = table_decided _ c [] _ (omega arith, tt)
+  set_up_view = table_decided _ c [] _
 
   set_up_empties : accepted (play c set_up) ≡ true → stored (play c set_up).cells ≡ []
   unfolding promised check_first.set_up

@@ -22,7 +22,7 @@ unfoldable pub plain_by : List Line → Book → Kept → Kept
 plain_by [] b made = made
 plain_by (l ∷ ls) b made =
     let rest = plain_by ls b made in
-    cond l.when (record { book = b; outcome = Refused l.code; writing = nothing }) rest
+    cond l.when (record { book = b; outcome = Refused l.refusal; writing = nothing }) rest
 
 -- a call over a plain list: these pairs then stand in the same room
 abbrev pub kept : Book → Plainly → Kept

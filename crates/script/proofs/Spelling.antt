@@ -15,7 +15,8 @@ use Rattle.decimal.specs.Decimal.{is_digit, all_digits, value, is_number}
 use Rattle.decimal.proofs.Digits.{digit_range}
 use Rattle.line.proofs.Words.{some_word}
 use Rattle.text.specs.Text.{decimal}
-use Rattle.text.proofs.Printing.{item_few, append_none}
+use Rattle.std.proofs.Common.{append-nil}
+use Rattle.text.proofs.Printing.{item_few}
 use Rattle.text.proofs.Decimal.{decimal_value, decimal_number, decimal_digits, number_decimal}
 use Rattle.script.specs.Spelled.{spaced, numbers_asked, spelled, AllFit}
 
@@ -38,7 +39,7 @@ word_alone (b ∷ w) h =
 -- the words behind a space
 spaced_words : (n : ℕ) (ns : List ℕ) → words (decimal n ++ spaced ns) ≡ decimal n ∷ map decimal ns
 unfolding spaced
-spaced_words n [] = rw (append_none (decimal n)) (word_alone (decimal n) (decimal_digits n))
+spaced_words n [] = rw (append-nil (decimal n)) (word_alone (decimal n) (decimal_digits n))
 spaced_words n (m ∷ ns) = word_then (decimal n) (decimal m ++ spaced ns) (decimal_digits n) ∙ ap (λ ws. decimal n ∷ ws) (spaced_words m ns)
 
 line_words : (letter : ℕ) (ns : List ℕ) → (letter ≡ space → ⊥) → words (letter ∷ spaced ns) ≡ (letter ∷ []) ∷ map decimal ns
@@ -105,7 +106,7 @@ joined_words (b ∷ l) = on (eqb b space)
 
 joined_numbers : (w : List ℕ) (ns : List (List ℕ)) → all_numbers ns ≡ true → joined (w ∷ ns) ≡ w ++ spaced (map value ns)
 unfolding joined spaced
-joined_numbers w [] h = sym (append_none w)
+joined_numbers w [] h = sym (append-nil w)
 joined_numbers w (v ∷ ns) h =
     let e = both (is_number v) (all_numbers ns) h in
     let z = number_decimal v e.0 in

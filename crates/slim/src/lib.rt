@@ -5,6 +5,8 @@ ghost use Rattle.std.specs.Prelude.{◌≡◌, ltb};
 ghost use Rattle.stripes.specs.Stripe.{middle};
 ghost use Rattle.slim.specs.Slim.{MiddleFits, stripe_by, root_slim, left_slim, right_slim};
 
+// No twin of `Stripe`: that has the empty halves of a single x too, of which the check's clauses speak (`from_slot`); the x walks meet their bar
+// of speed with 32 bits alone.
 #[derive(Clone, Copy)]
 pub struct Slim {
     pub lower: u32,

@@ -1,4 +1,5 @@
--- What set up and check mean: the check gives 0 exactly where the pool is sound; set up leaves a sound pool with nothing stored.
+-- What set up and check mean: the check passes exactly where the pool is sound; set up leaves a sound pool with nothing stored.
+use Rattle.std.specs.Prelude.{Ok}
 use Prim.Native.Nat.{ℕ}
 use mathlib.Core.Path.{◌≡◌, refl, ap}
 use mathlib.Core.Logic.{◌↔◌}
@@ -31,8 +32,8 @@ module _ (c : List ℕ) where
     λ n. on (is_sound c) (λ e. absurd (n (test_sound c e))) (λ e. rw e),
   )
 
-  -- law: the verdict is 0 exactly where the pool is sound
-  pub check_sound : (verdict_of c ≡ 0) ↔ Sound c
+  -- law: the check passes exactly where the pool is sound
+  pub check_sound : (verdict_of c ≡ Ok tt) ↔ Sound c
   check_sound = (λ h. verdict_sound c refl h, λ s. sound_verdict s)
 
   -- law: on a sound pool the check is done

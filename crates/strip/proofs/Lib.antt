@@ -1,2 +1,1 @@
--- What the codes of a strip's numbers and of asked slots say.
-pub mod Fitting
+-- No lemma is needed here: the tests and the lines are compared as they stand.

@@ -1,3 +1,2 @@
--- Laws about stripes, and about those that x lies in.
-pub mod Stripes
+-- Laws about the stripes that x lies in.
 pub mod Heights

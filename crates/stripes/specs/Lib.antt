@@ -1,4 +1,3 @@
--- A stripe and its halves (Stripe). Heights and Shape tie the code to it.
+-- A stripe and its halves (Stripe). Heights ties the code to it.
 pub mod Stripe
 pub mod Heights
-pub mod Shape

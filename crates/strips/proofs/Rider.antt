@@ -1,4 +1,5 @@
 -- What the strip questions answer, in a rider's words. It assumes a sound pool, and slots that the call lets through.
+use Rattle.std.specs.Prelude.{Option, Some, None as no_pair}
 use Prim.Native.Nat.{ℕ, ◌+◌, ◌*◌, ◌≤◌, ◌<◌}
 use mathlib.Core.Path.{◌≡◌, refl}
 use mathlib.Core.Logic.{◌↔◌}
@@ -7,8 +8,6 @@ use mathlib.Core.List.{List, [], Memᴰ}
 use native.Mathlib.Omega.{arith}
 use lib.Dec.{ltb}
 use borrow.Author.Tests.{ltb-true, ltb-false, le-ltb}
-use Rattle.kinds.specs.declared.Finding.{Finding}
-use Rattle.kinds.specs.declared.Finding.TheVariants.{Found as found_pair, Nothing as no_pair}
 use Rattle.kinds.specs.declared.Limits.{Limits}
 use Rattle.kinds.specs.declared.Outcome.TheVariants.{Found, Nothing}
 use Rattle.kinds.specs.declared.Pair.{Pair}
@@ -44,12 +43,12 @@ of_ahead p q a = on (ltb q.x p.x)
     (λ t. let h = ltb-true q.x p.x t in let e = a.end in let n = a.number (omega arith) in absurd (omega arith))
     (λ f. ltb-false q.x p.x f)
 
-outcome_found : (f : Finding) (p : Pair) → (outcome_of f ≡ Found p) ↔ (f ≡ found_pair p)
-outcome_found (found_pair q) p = (λ e. cc, λ e. cc)
+outcome_found : (f : Option Pair) (p : Pair) → (outcome_of f ≡ Found p) ↔ (f ≡ Some p)
+outcome_found (Some q) p = (λ e. cc, λ e. cc)
 outcome_found no_pair p = (λ e. cc, λ e. cc)
 
-outcome_nothing : (f : Finding) → (outcome_of f ≡ Nothing) ↔ (f ≡ no_pair)
-outcome_nothing (found_pair q) = (λ e. cc, λ e. cc)
+outcome_nothing : (f : Option Pair) → (outcome_of f ≡ Nothing) ↔ (f ≡ no_pair)
+outcome_nothing (Some q) = (λ e. cc, λ e. cc)
 outcome_nothing no_pair = (λ e. refl, λ e. refl)
 
 module _ {c : List ℕ} (s : Sound c) where

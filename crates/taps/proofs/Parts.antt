@@ -1,12 +1,9 @@
--- A part of a slice, from an index on to its end. It assumes that the index is no further than the end.
-use Prim.Native.Nat.{ℕ, ◌+◌, ◌-◌, ◌≤◌}
+-- What is told of a part of a slice. Nothing is assumed.
+use Prim.Native.Nat.{ℕ, ◌≤◌}
 use mathlib.Core.List.{List}
 use native.Mathlib.Omega.{arith}
-use lib.ListN.{length, take, drop, length-take, length-drop}
+use lib.ListN.{length, take, length-take}
 
--- law: what lies within the part lies within the slice
-pub part_within : (o : List ℕ) (k n : ℕ) → k ≤ length o → n ≤ length (take (length o - k) (drop k o)) → k + n ≤ length o
-part_within o k n h g =
-    let a = length-take (length o - k) (drop k o) in
-    let b = length-drop k o in
-    omega arith
+-- law: what lies within the first so many is no more than so many
+pub first_within : (k n : ℕ) (o : List ℕ) → n ≤ length (take k o) → n ≤ k
+first_within k n o h = let l = length-take k o in omega arith

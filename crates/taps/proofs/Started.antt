@@ -1,4 +1,4 @@
--- The pool that the program starts with: set up makes its cells a sound one, whatever they held.
+-- The pool that the desk holds: set up makes its cells a sound one, whatever they held, and so they stay.
 use Prim.Native.Nat.{ℕ}
 use mathlib.Core.Path.{◌≡◌}
 use mathlib.Core.List.{List}

@@ -2,10 +2,11 @@
 // It writes its pool by its own calls alone, so that it is sound from set up on, and no line checks it.
 #![tactic(auto)]
 
-ghost use Rattle.std.specs.Prelude.{◌≤◌, length};
+ghost use Rattle.std.specs.Prelude.{◌≤◌, length, IfOk};
 ghost use Rattle.pools.specs.Sound.{Sound};
+ghost use Rattle.taps.specs.declared.TheConstants.{PIECE};
 
-use lines::Told;
+use std::io;
 use std::io::{Read, Write};
 
 // The bytes of a line that are kept while its end has not been read: one more than a line may have.
@@ -16,101 +17,58 @@ const PIECE: usize = 65536;
 
 const NEWLINE: u8 = 10;
 
-// How many reads are made at most.
-const READS: u64 = 18446744073709551615;
-
-// How many bytes the output holds, and whether all before them could be written.
+// A sound pool, the room for a listing, and the answers that have still to be written: so many bytes of the output, since the memory is fixed.
 #[derive(Drop)]
-struct Held {
-    bytes: usize,
-    open: bool,
-}
-
-// How far the lines of the input are answered, which is where the next one starts, and what the output holds.
-#[derive(Drop)]
-struct Reached {
-    from: usize,
-    held: Held,
-}
-
-// How many bytes of a line are kept, and whether to go on.
-#[derive(Drop)]
-struct Left {
-    kept: usize,
-    more: bool,
-}
-
-// The first bytes of the output are written; the answer says whether they could be.
-fn flush(writer: &mut impl Write, output: &[u8], held: usize) -> bool
-    requires { held ≤ length output.now }
-{
-    writer.write_all(&output[..held]).is_ok()
-}
-
-// A line is answered behind what the output holds, which is written first where there may be no room.
-fn answer(
-    writer: &mut impl Write,
-    cells: &mut [u32],
-    room: &mut [u32],
-    line: &[u8],
-    output: &mut [u8],
+struct Desk {
+    cells: [u32; 4096],
+    room: [u32; 2046],
+    output: [u8; PIECE],
     held: usize,
-) -> Held
-    requires { Sound cells.old × (held ≤ length output.old) }
-    ensures { Sound cells.new × (result.bytes ≤ length output.old) }
-{
-    let behind = lines::answer_checked(cells, room, line, &mut output[held..]);
-    if let Told::Bytes(n) = behind {
-        return Held {
-            bytes: held + n,
-            open: true,
-        };
-    }
-    if !flush(writer, output, held) {
-        return Held {
-            bytes: 0,
-            open: false,
-        };
-    }
-    let first = lines::answer_checked(cells, room, line, output);
-    match first {
-        Told::Bytes(n) => Held {
-            bytes: n,
-            open: true,
-        },
-        Told::Short => Held {
-            bytes: 0,
-            open: true,
-        },
-    }
+    ghost sound: { ∥ Sound cells ∥₁ },
+    ghost within: { held ≤ PIECE },
 }
 
-// The lines that end within the first bytes of the input, as long as the output can be written.
-fn answer_lines(
-    writer: &mut impl Write,
-    cells: &mut [u32],
-    room: &mut [u32],
-    input: &[u8],
-    to: usize,
-    output: &mut [u8],
-) -> Reached
-    requires { Sound cells.old × (to ≤ length input.now) }
-    ensures { Sound cells.new × (result.from ≤ to) × (result.held.bytes ≤ length output.new) }
-{
-    let mut from = 0;
-    let mut held = Held {
-        bytes: 0,
-        open: true,
-    };
-    while held.open {
-        let Some(length) = input[from..to].iter().position(|b| *b == NEWLINE) else {
-            break;
-        };
-        let end = from + length;
-        held = answer(writer, cells, room, &input[from..end], output, held.bytes);
-        from = end + 1;
+impl Desk {
+    // What is held is written.
+    fn flush(&mut self, writer: &mut impl Write) -> io::Result<()> {
+        writer.write_all(&self.output[..self.held])?;
+        self.held = 0;
+        Ok(())
     }
-    Reached { from, held }
+
+    // A line is answered behind what is held, if there is room.
+    fn answer_behind(&mut self, line: &[u8]) -> Option<usize> {
+        let told = lines::answer_checked(
+            &mut self.cells,
+            &mut self.room,
+            line,
+            &mut self.output[self.held..],
+        )?;
+        self.held += told;
+        Some(told)
+    }
+
+    // A line is answered behind what is held, which is written first where there may be no room.
+    fn answer(&mut self, writer: &mut impl Write, line: &[u8]) -> io::Result<()> {
+        if self.answer_behind(line).is_none() {
+            self.flush(writer)?;
+            self.answer_behind(line);
+        }
+        Ok(())
+    }
+
+    // The lines that end within the input are answered. What is behind the last of them starts where the result says.
+    fn answer_lines(&mut self, writer: &mut impl Write, input: &[u8]) -> io::Result<usize>
+        ensures { IfOk result (λ from. from ≤ length input.now) }
+    {
+        let mut from = 0;
+        while let Some(length) = input[from..].iter().position(|b| *b == NEWLINE) {
+            let end = from + length;
+            self.answer(writer, &input[from..end])?;
+            from = end + 1;
+        }
+        Ok(from)
+    }
 }
 
 // The start of an unended line goes to the front of the input; of a longer one than a line may be, no more than shows that.
@@ -118,113 +76,62 @@ fn keep(input: &mut [u8], from: usize, to: usize) -> usize
     requires { (from ≤ to) × (to ≤ length input.old) }
     ensures { result ≤ to }
 {
-    let mut i = 0;
-    while i < KEPT {
-        if to - from <= i {
-            break;
-        }
-        input[i] = input[from + i];
-        i += 1;
-    }
-    i
-}
-
-// What the output holds is written, if all before it could be; the answer says whether it was.
-fn finish(writer: &mut impl Write, output: &[u8], held: Held) -> bool
-    requires { held.bytes ≤ length output.now }
-{
-    if !held.open {
-        return false;
-    }
-    flush(writer, output, held.bytes)
-}
-
-// What is read goes behind the kept bytes; the lines that end in it are answered. Where that cannot be written nothing is kept.
-fn turn(
-    reader: &mut impl Read,
-    writer: &mut impl Write,
-    cells: &mut [u32],
-    room: &mut [u32],
-    input: &mut [u8],
-    kept: usize,
-    output: &mut [u8],
-) -> Left
-    requires { Sound cells.old × (kept ≤ length input.old) }
-    ensures { Sound cells.new × (result.kept ≤ length input.new) }
-{
-    let got = reader.read(&mut input[kept..]).unwrap_or(0);
-    if got == 0 {
-        return Left { kept, more: false };
-    }
-    let to = kept + got;
-    let reached = answer_lines(writer, cells, room, input, to, output);
-    let held = reached.held;
-    if !finish(writer, output, held) {
-        return Left {
-            kept: 0,
-            more: false,
-        };
-    }
-    Left {
-        kept: keep(input, reached.from, to),
-        more: true,
-    }
-}
-
-// Turns until nothing more is read or written. What is kept is then the last line, if its newline is missing.
-fn read_all(
-    reader: &mut impl Read,
-    writer: &mut impl Write,
-    cells: &mut [u32],
-    room: &mut [u32],
-    input: &mut [u8],
-    output: &mut [u8],
-) -> usize
-    requires { Sound cells.old }
-    ensures { Sound cells.new × (result ≤ length input.new) }
-{
-    let mut kept = 0;
-    for _ in 0..READS {
-        let t = turn(reader, writer, cells, room, input, kept, output);
-        if !t.more {
-            return t.kept;
-        }
-        kept = t.kept;
-    }
+    let kept = (to - from).min(KEPT);
+    input.copy_within(from..from + kept, 0);
     kept
 }
 
-// The whole input is answered, and the last line too if its newline is missing.
+// The input is read to its end, or to an error, which ends it too, and each line that ends in it is answered.
+// What is kept is then the last line, if its newline is missing.
+fn read_all(
+    reader: &mut impl Read,
+    writer: &mut impl Write,
+    desk: &mut Desk,
+    input: &mut [u8],
+) -> io::Result<usize>
+    ensures { IfOk result (λ kept. kept ≤ length input.new) }
+{
+    let mut kept = 0;
+    // Each read is one of a number that no input reaches, so that the loop is seen to end.
+    for _ in 0..u64::MAX {
+        let got = reader.read(&mut input[kept..]).unwrap_or(0);
+        if got == 0 {
+            break;
+        }
+        let to = kept + got;
+        let from = desk.answer_lines(writer, &input[..to])?;
+        desk.flush(writer)?;
+        kept = keep(input, from, to);
+    }
+    Ok(kept)
+}
+
+// The whole input is answered, and the last line too if its newline is missing, as long as the answers can be written.
 fn run(
     reader: &mut impl Read,
     writer: &mut impl Write,
-    cells: &mut [u32],
-    room: &mut [u32],
+    desk: &mut Desk,
     input: &mut [u8],
-    output: &mut [u8],
-)
-    requires { Sound cells.old }
-{
-    let kept = read_all(reader, writer, cells, room, input, output);
-    if kept == 0 {
-        return;
+) -> io::Result<()> {
+    let kept = read_all(reader, writer, desk, input)?;
+    if kept > 0 {
+        desk.answer(writer, &input[..kept])?;
+        desk.flush(writer)?;
     }
-    let held = answer(writer, cells, room, &input[..kept], output, 0);
-    finish(writer, output, held);
+    Ok(())
 }
 
 fn main(rt: HostRuntime) {
     let mut cells = [0; 4096];
-    let mut room = [0; 2046];
+    // The cells are a pool's, so that set up accepts them.
+    let _ = pool::set_up(&mut cells);
+    let mut desk = Desk {
+        cells,
+        room: [0; 2046],
+        output: [0; PIECE],
+        held: 0,
+    };
     let mut input = [0; PIECE];
-    let mut output = [0; PIECE];
-    pool::set_up(&mut cells);
-    run(
-        &mut rt.stdin(),
-        &mut rt.stdout(),
-        &mut cells,
-        &mut room,
-        &mut input,
-        &mut output,
-    );
+    // Where answers cannot be written there is no more to do.
+    let _ = run(&mut rt.stdin(), &mut rt.stdout(), &mut desk, &mut input);
 }

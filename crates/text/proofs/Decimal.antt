@@ -11,9 +11,9 @@ use borrow.Author.Tests.{le-leb, lt-ltb, ne_eqb, eqb-true, eqb-false, leb-true, 
 use Rattle.kinds.proofs.Tests.{on, clash, both, all_four, and_true, and_false}
 use Rattle.decimal.specs.Decimal.{is_digit, all_digits, value_from, value, leading_zero, is_number}
 use Rattle.decimal.proofs.Digits.{most, digit_range, value_grows}
-use Rattle.line.proofs.Words.{append_one}
+use Rattle.std.proofs.Common.{append-nil, append_assoc}
 use Rattle.text.specs.Text.{glyph, front, decimal}
-use Rattle.text.proofs.Printing.{front_zero, front_step, append_none}
+use Rattle.text.proofs.Printing.{front_zero, front_step}
 
 value_snoc : (n : ℕ) (w : List ℕ) (b : ℕ) → value_from n (w ++ (b ∷ [])) ≡ value_from n w * 10 + (b - 48)
 unfolding value_from
@@ -104,7 +104,7 @@ module _ (n : ℕ) (h : n ≤ most) where
 
 front_after : (w : List ℕ) (k n : ℕ) → all_digits w ≡ true → (n ≡ 0 → ⊥) → front (k + length w) (value_from n w) ≡ front k n ++ w
 unfolding value_from all_digits
-front_after [] k n h d = let z : k + 0 ≡ k = omega arith in rw z (sym (append_none (front k n)))
+front_after [] k n h d = let z : k + 0 ≡ k = omega arith in rw z (sym (append-nil (front k n)))
 front_after (b ∷ bs) k n h d =
     let e = both (is_digit b) (all_digits bs) h in
     let r = digit_range b e.0 in
@@ -115,7 +115,7 @@ front_after (b ∷ bs) k n h d =
     let y : m / 10 ≡ n = omega (arith, r.0, r.1) in
     let g : glyph m ≡ b = omega (arith, r.0, r.1) in
     let f : front (suc k) m ≡ front k n ++ (b ∷ []) = front_step (suc k) m (λ q. true≢false cc) ne ∙ rw (x, y, g) refl in
-    rw z (front_after bs (suc k) m e.1 ne ∙ rw f (append_one (front k n) bs b))
+    rw z (front_after bs (suc k) m e.1 ne ∙ rw f (append_assoc (front k n) (b ∷ []) bs))
 
 front_fuel : (j k n : ℕ) → n < 10 ^ j → n < 10 ^ k → front j n ≡ front k n
 unfolding front

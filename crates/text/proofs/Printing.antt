@@ -3,7 +3,7 @@ use Prim.Native.Nat.{ℕ, zero, suc, ◌+◌, ◌*◌, ◌-◌, ◌/◌, ◌%◌
 use mathlib.Core.Path.{◌≡◌, refl, sym, ap, ◌∙◌}
 use mathlib.Core.List.{List, [], ◌∷◌, ◌++◌}
 use native.Mathlib.Omega.{arith}
-use lib.ListN.{length, set, get_or, length-append}
+use lib.ListN.{length, set, get_or, take, length-append}
 use borrow.Author.Tests.{ne_eqb}
 use Rattle.kinds.specs.Placed.{placed}
 use Rattle.kinds.proofs.Placing.{length_placed, placed_append}
@@ -12,6 +12,9 @@ use lib.Dec.{eqb}
 use Rattle.line.specs.Line.{space}
 use Rattle.text.specs.Text.{newline, glyph, front, decimal, item, row, match_rows}
 use Rattle.text.specs.Writing.{Puts, strip_items}
+use lib.Seq.{take_all}
+use Rattle.std.specs.Simd.{first_chunks}
+use Rattle.std.proofs.Common.{append-nil, append_assoc}
 
 -- law: nothing stored
 pub puts_none : (o : List ℕ) (at : ℕ) → Puts o at [] o at
@@ -111,36 +114,31 @@ strip_few x y after =
 pub room_behind_strip : (o o1 : List ℕ) (at r x y after k : ℕ) → Puts o at (strip_items x y after) o1 r → at + 33 + k ≤ length o → r + k ≤ length o1
 room_behind_strip o o1 at r x y after k p h = let f = strip_few x y after in let e = p.end in let l = puts_length p in omega arith
 
-pub append_none : (vs : List ℕ) → vs ++ [] ≡ vs
-append_none [] = refl
-append_none (v ∷ vs) = ap (λ us. v ∷ us) (append_none vs)
-
-pub append_assoc : (us vs ws : List ℕ) → (us ++ vs) ++ ws ≡ us ++ (vs ++ ws)
-append_assoc [] vs ws = refl
-append_assoc (u ∷ us) vs ws = ap (λ l. u ∷ l) (append_assoc us vs ws)
+-- a line for each pair
+abbrev pub rows_of : List (List ℕ) → List ℕ
+rows_of [] = []
+rows_of (p ∷ ps) = strip_items (get_or p 0 0) (get_or p 1 0) newline ++ rows_of ps
 
 -- law: one row more
-pub rows_more : (i : ℕ) (room : List ℕ) → 2 * i + 1 < length room
-    → match_rows (suc i) room ≡ match_rows i room ++ strip_items (get_or room (2 * i) 0) (get_or room (2 * i + 1) 0) newline
-unfolding match_rows row
-rows_more i [] h = absurd (omega (arith, h))
-rows_more i (x ∷ []) h = absurd (omega (arith, h))
-rows_more zero (x ∷ y ∷ room) h = append_none (strip_items x y newline)
-rows_more (suc i) (x ∷ y ∷ room) h =
-    let a : 2 * suc i ≡ suc (suc (2 * i)) = omega arith in
-    let b : suc (suc (2 * i)) + 1 ≡ suc (suc (2 * i + 1)) = omega arith in
-    let r = rows_more i room (omega (arith, h)) in
-    rw (a, b) (ap (λ l. strip_items x y newline ++ l) r ∙ sym (append_assoc (strip_items x y newline) (match_rows i room) _))
+rows_more : (i : ℕ) (ps : List (List ℕ)) (d : List ℕ) → i < length ps
+    → rows_of (take (suc i) ps) ≡ rows_of (take i ps) ++ strip_items (get_or (get_or ps i d) 0 0) (get_or (get_or ps i d) 1 0) newline
+rows_more i [] d h = absurd (omega (arith, h))
+rows_more zero (p ∷ ps) d h = append-nil (strip_items (get_or p 0 0) (get_or p 1 0) newline)
+rows_more (suc i) (p ∷ ps) d h =
+    let r = rows_more i ps d (omega (arith, h)) in
+    let a = strip_items (get_or p 0 0) (get_or p 1 0) newline in
+    ap (λ l. a ++ l) r ∙ sym (append_assoc a (rows_of (take i ps)) _)
 
--- law: there are no more rows than pairs in the room
-pub rows_most : (n : ℕ) (room : List ℕ) → match_rows (min n (length room / 2)) room ≡ match_rows n room
-unfolding match_rows
-rows_most zero room = let z : min zero (length room / 2) ≡ zero = omega arith in rw z
-rows_most (suc n) [] = let z : min (suc n) (length {A = ℕ} [] / 2) ≡ zero = omega arith in rw z
-rows_most (suc n) (x ∷ []) = let z : min (suc n) (length (x ∷ []) / 2) ≡ zero = omega arith in rw z
-rows_most (suc n) (x ∷ y ∷ room) =
-    let z : min (suc n) (length (x ∷ y ∷ room) / 2) ≡ suc (min n (length room / 2)) = omega arith in
-    rw z (ap (λ l. row (x / 65536 ∷ x % 65536 ∷ y ∷ []) ++ l) (rows_most n room))
+-- law: the rows of so many matches are those of the room's first pairs
+rows_pairs : (n : ℕ) (room : List ℕ) → match_rows n room ≡ rows_of (take (min (length room / 2) n) (first_chunks 2 (length room / 2) room))
+unfolding match_rows row
+rows_pairs zero room = let z : min (length room / 2) zero ≡ zero = omega arith in rw z refl
+rows_pairs (suc n) [] = let z : length {A = ℕ} [] / 2 ≡ zero = omega arith in let m : min zero (suc n) ≡ zero = omega arith in rw (z, m) refl
+rows_pairs (suc n) (x ∷ []) = let z : length (x ∷ []) / 2 ≡ zero = omega arith in let m : min zero (suc n) ≡ zero = omega arith in rw (z, m) refl
+rows_pairs (suc n) (x ∷ y ∷ room) =
+    let z : length (x ∷ y ∷ room) / 2 ≡ suc (length room / 2) = omega arith in
+    let m : min (suc (length room / 2)) (suc n) ≡ suc (min (length room / 2) n) = omega arith in
+    rw (z, m) (ap (λ l. strip_items x y newline ++ l) (rows_pairs n room))
 
 -- law: a row takes no more than 33 bytes
 pub rows_few : (n : ℕ) (room : List ℕ) → length (match_rows n room) ≤ 33 * (length room / 2)
@@ -155,31 +153,24 @@ rows_few (suc n) (x ∷ y ∷ room) =
     omega arith
 
 -- what stays so at each row: the rows so far are put, and there is room for those to come
-pub record Rows (o0 : List ℕ) (at : ℕ) (room : List ℕ) (n : ℕ) (o : List ℕ) (to i : ℕ) : Type 0 where
-  pub few : i ≤ n
-  pub put : Puts o0 at (match_rows i room) o to
-  pub space : to + 33 * (n - i) ≤ length o
+pub record Rows (o0 : List ℕ) (at : ℕ) (ps : List (List ℕ)) (o : List ℕ) (to i : ℕ) : Type 0 where
+  pub put : Puts o0 at (rows_of (take i ps)) o to
+  pub space : to + 33 * (length ps - i) ≤ length o
 
-pub first_row : (o : List ℕ) (at : ℕ) (room : List ℕ) (n : ℕ) → n ≤ length room / 2 → at + 33 * (length room / 2) ≤ length o → Rows o at room n o at 0
-unfolding match_rows
-first_row o at room n h k = record { few = omega arith; put = puts_none o at; space = omega arith }
+pub first_row : (o : List ℕ) (at : ℕ) (ps : List (List ℕ)) → at + 33 * length ps ≤ length o → Rows o at ps o at 0
+first_row o at ps h = record { put = puts_none o at; space = omega arith }
 
-pub next_row : (o0 : List ℕ) (at : ℕ) (room : List ℕ) (n : ℕ) (o : List ℕ) (to i : ℕ) → Rows o0 at room n o to i → i < n → n ≤ length room / 2
-    → (o1 : List ℕ) (r : ℕ) → Puts o to (strip_items (get_or room (2 * i) 0) (get_or room (2 * i + 1) 0) newline) o1 r → Rows o0 at room n o1 r (i + 1)
-next_row o0 at room n o to i R h k o1 r p =
+pub next_row : (o0 : List ℕ) (at : ℕ) (ps : List (List ℕ)) (o : List ℕ) (to i : ℕ) → Rows o0 at ps o to i → i < length ps
+    → (d o1 : List ℕ) (r : ℕ) → Puts o to (strip_items (get_or (get_or ps i d) 0 0) (get_or (get_or ps i d) 1 0) newline) o1 r → Rows o0 at ps o1 r (i + 1)
+next_row o0 at ps o to i R h d o1 r p =
     let z : i + 1 ≡ suc i = omega arith in
-    let x = get_or room (2 * i) 0 in
-    let y = get_or room (2 * i + 1) 0 in
+    let x = get_or (get_or ps i d) 0 0 in
+    let y = get_or (get_or ps i d) 1 0 in
     record {
-      few = omega (arith, h);
-      put = rw (z, rows_more i room (omega arith)) (puts_then R.put p);
+      put = rw (z, rows_more i ps d h) (puts_then R.put p);
       space = let f = strip_few x y newline in let e = p.end in let l = puts_length p in let s = R.space in omega arith;
     }
 
-pub all_rows : (o0 : List ℕ) (at : ℕ) (room : List ℕ) (n count : ℕ) (o : List ℕ) (to i : ℕ) → Rows o0 at room n o to i → n ≤ i → n ≡ min count (length room / 2)
-    → Puts o0 at (match_rows count room) o to
-all_rows o0 at room n count o to i R h e =
-    let f = R.few in
-    let z : i ≡ min count (length room / 2) = omega arith in
-    let p = R.put in
-    rw (z, rows_most count room) at p
+pub all_rows : (o0 : List ℕ) (at : ℕ) (room : List ℕ) (count : ℕ) (o : List ℕ) (to i : ℕ) (ps : List (List ℕ)) → Rows o0 at ps o to i → length ps ≤ i
+    → ps ≡ take (min (length room / 2) count) (first_chunks 2 (length room / 2) room) → Puts o0 at (match_rows count room) o to
+all_rows o0 at room count o to i ps R h e = rw (rows_pairs count room, ← e) (let p = R.put in rw (take_all i ps h) at p)

@@ -1,12 +1,13 @@
 -- A call that tells an answer tells the promised one, since the answer is the promised one. Nothing else is assumed.
 use Prim.Native.Nat.{ℕ}
-use mathlib.Core.Path.{◌≡◌, ap, sym, ◌∙◌}
+use mathlib.Core.Path.{◌≡◌, refl, ap, ◌∙◌}
 use mathlib.Core.List.{List, [], ◌∷◌}
+use Rattle.std.specs.Prelude.{Result, Ok, Err}
+use Rattle.kinds.specs.declared.Refusal.{Refusal}
 use Rattle.kinds.specs.declared.Answer.{Answer}
 use Rattle.kinds.specs.declared.Five.{Five}
-use Rattle.kinds.specs.Answer.{five, ended}
+use Rattle.kinds.specs.Answer.{five, numbers_of, ended}
 use Rattle.kinds.specs.Promise.{Promise, Keeps}
-use Rattle.kinds.proofs.Numbers.{ended_numbers}
 use Rattle.told.specs.Told.{code_of, array_of, Numbered, Tells, TellsCode}
 
 -- law: the code of the answer's numbers
@@ -19,9 +20,11 @@ pub all_told : (a : Answer) {n : Five} → n ≡ five a → Numbered a (n.code �
 unfolding array_of
 all_told a e = record { code = code_told a e; array = rw e }
 
--- law: a code, and four zeros beside it, where a change ends with that code
-pub code_alone : (k : ℕ) → Numbered (ended k) (k ∷ 0 ∷ 0 ∷ 0 ∷ 0 ∷ []) k
-code_alone k = all_told (ended k) (sym (ended_numbers k))
+-- law: a code, and four zeros beside it, where a change ends so
+pub code_alone : (r : Result (Unit {0}) Refusal) {k : ℕ} → k ≡ (five (ended r)).code → Numbered (ended r) (k ∷ 0 ∷ 0 ∷ 0 ∷ 0 ∷ []) k
+unfolding five numbers_of code_of array_of
+code_alone (Ok done) e = rw e (record { code = refl; array = refl })
+code_alone (Err j) e = rw e (record { code = refl; array = refl })
 
 module _ {P : Promise} {c c' : List ℕ} {a : Answer} {r : ℕ} where
   -- law: a call that keeps its promise, and whose answer is told

@@ -5,28 +5,29 @@ ghost use Rattle.std.specs.Prelude.{◌≡◌};
 ghost use Rattle.kinds.specs.Answer.{ended};
 ghost use Rattle.told.specs.Told.{code_of, Numbered};
 
-use kinds::Answer;
+use kinds::{Answer, Five, Refusal};
 
 // The code of an answer.
 pub fn code_of(a: Answer) -> u32
     ensures { result ≡ code_of a }
 {
-    a.numbers().code
+    Five::from(a).code
 }
 
 // Writes an answer's numbers, and gives its code.
 pub fn tell(a: Answer, answer: &mut [u32; 5]) -> u32
     ensures { Numbered a answer.new result }
 {
-    let n = a.numbers();
+    let n = Five::from(a);
     *answer = [n.code, n.x, n.y, n.count, n.visits];
     n.code
 }
 
 // Writes the numbers of a change's answer, which is its code alone, and gives the code.
-pub fn tell_code(code: u32, answer: &mut [u32; 5]) -> u32
-    ensures { Numbered (ended code) answer.new result }
+pub fn tell_ended(r: Result<(), Refusal>, answer: &mut [u32; 5]) -> u32
+    ensures { Numbered (ended r) answer.new result }
 {
+    let code = kinds::code_of(r);
     *answer = [code, 0, 0, 0, 0];
     code
 }

@@ -1,5 +1,6 @@
 -- The tree part of the check, one step at a time, as the code takes it: a son by what it is, and a slot by what its sons gave. Nothing is
 -- assumed of the cells but what the tests have shown.
+use Rattle.std.specs.Prelude.{Option, Some, None}
 use Prim.Native.Nat.{ℕ, zero, suc, ◌+◌, ◌-◌, ◌≤◌, ◌<◌}
 use mathlib.Core.Path.{◌≡◌, refl, sym, ap, ◌∙◌}
 use mathlib.Core.Bool.{Bool, true, false, cond, not}
@@ -11,7 +12,6 @@ use borrow.Author.Tests.{eq-eqb, ne_eqb}
 use Rattle.kinds.specs.declared.Pair.{Pair}
 use Rattle.kinds.specs.Pairs.{beats}
 use Rattle.stripes.specs.Stripe.{low_levels, Stripe, middle, left_part, right_part}
-use Rattle.stripes.specs.Heights.{Low}
 use Rattle.trees.specs.Tree.{size}
 use Rattle.trees.specs.Changes.{met}
 use Rattle.pools.specs.Cells.{pair_at, left_at, right_at, tree_at}
@@ -19,19 +19,19 @@ use Rattle.pools.specs.Links.{Fits}
 use Rattle.pools.specs.Test.{slot_fine, alone, fine, below}
 use Rattle.pools.proofs.Leads.{back, tree_none, tree_fork, few}
 use Rattle.pools.proofs.Decided.{fine_true}
-use Rattle.halving.specs.Sought.{Sought}
+use Rattle.pools.specs.Sound.{Leads}
+use Rattle.places.specs.declared.Place.{Place}
+use Rattle.places.specs.Places.{tree_here, LeadsHere, left_place, right_place}
 use Rattle.tree.proofs.Sons.{fine_fits}
-use Rattle.tree.specs.declared.Checked.{Checked}
-use Rattle.tree.specs.declared.Checked.TheVariants.{Counted, Faulty}
 use Rattle.tree.specs.declared.Son.{Son}
 use Rattle.tree.specs.declared.Son.TheVariants.{Empty, Leaf, Fork, Bad}
 use Rattle.tree.specs.Checked.{count_if, from_link, from_slot, SonIs, empty, leaf, branch, bad}
 
-pub was_counted : (b : Bool) (n a : ℕ) → count_if b n ≡ Counted a → (b ≡ true) × (n ≡ a)
+pub was_counted : (b : Bool) (n a : ℕ) → count_if b n ≡ Some a → (b ≡ true) × (n ≡ a)
 was_counted true n a h = (refl, cc)
 was_counted false n a h = let z : ◌≡◌ {A = ℕ} 0 1 = cc in absurd (omega arith)
 
-pub was_faulty : (b : Bool) (n : ℕ) → count_if b n ≡ Faulty → b ≡ false
+pub was_faulty : (b : Bool) (n : ℕ) → count_if b n ≡ None → b ≡ false
 was_faulty true n h = cc
 was_faulty false n h = refl
 
@@ -42,7 +42,7 @@ fine_empty c zero p s at e = eq-eqb s 0 e
 fine_empty c (suc k) p s at e = rw (eq-eqb s 0 e)
 
 module _ (c : List ℕ) (k : ℕ) (p : Pair) (s : ℕ) (at : Stripe) where
-  none_there : s ≡ 0 → Counted 0 ≡ from_link c k p s at
+  none_there : s ≡ 0 → Some 0 ≡ from_link c k p s at
   unfolding from_link
   none_there e = rw (fine_empty c k p s at e, tree_none c k s e)
 
@@ -51,7 +51,7 @@ module _ (c : List ℕ) (k : ℕ) (p : Pair) (s : ℕ) (at : Stripe) where
   unfolding from_link from_slot fine below
   slot_there j e ne f b = rw (e, tree_fork c j s ne, ne_eqb s 0 ne, f, b)
 
-  nothing_below : (j : ℕ) → left_at c s ≡ 0 → right_at c s ≡ 0 → Counted 1 ≡ from_slot c j s at
+  nothing_below : (j : ℕ) → left_at c s ≡ 0 → right_at c s ≡ 0 → Some 1 ≡ from_slot c j s at
   unfolding from_slot below alone met
   nothing_below j l r =
       rw (
@@ -61,24 +61,24 @@ module _ (c : List ℕ) (k : ℕ) (p : Pair) (s : ℕ) (at : Stripe) where
         tree_none c j (right_at c s) r,
       ) (go (ltb (pair_at c s).x (middle at)))
     where
-      go : (b : Bool) → Counted 1 ≡ count_if (not (cond b false false)) (0 + 0 + 1)
+      go : (b : Bool) → Some 1 ≡ count_if (not (cond b false false)) (0 + 0 + 1)
       go true = refl
       go false = refl
 
   -- what look_at_son says, at each of its cases
-  pub son_empty : {what : Son} → SonIs c k p s at what → what ≡ Empty → Counted 0 ≡ from_link c k p s at
+  pub son_empty : {what : Son} → SonIs c k p s at what → what ≡ Empty → Some 0 ≡ from_link c k p s at
   son_empty (empty e) t = none_there e
   son_empty (leaf a b d e f g) t = cc
   son_empty (branch a b d e) t = cc
   son_empty (bad e) t = cc
 
-  pub son_leaf : {what : Son} → SonIs c k p s at what → what ≡ Leaf → Counted 1 ≡ from_link c k p s at
+  pub son_leaf : {what : Son} → SonIs c k p s at what → what ≡ Leaf → Some 1 ≡ from_link c k p s at
   son_leaf (empty e) t = cc
   son_leaf (leaf ne d f b l r) t = nothing_below (k - 1) l r ∙ slot_there (k - 1) (sym (back k d)) ne f b
   son_leaf (branch a b d e) t = cc
   son_leaf (bad e) t = cc
 
-  pub son_bad : {what : Son} → SonIs c k p s at what → what ≡ Bad → Faulty ≡ from_link c k p s at
+  pub son_bad : {what : Son} → SonIs c k p s at what → what ≡ Bad → None ≡ from_link c k p s at
   unfolding from_link
   son_bad (empty e) t = cc
   son_bad (leaf a b d e f g) t = cc
@@ -100,64 +100,64 @@ module _ (c : List ℕ) (k : ℕ) (p : Pair) (s : ℕ) (at : Stripe) where
   pub fork_fits : Branch → Fits c s
   fork_fits b = let n = b.some in fine_fits c s at true (omega arith) (sym b.fine) refl
 
-  pub fork_there : (w : Checked) → Branch → w ≡ from_slot c (k - 1) s at → w ≡ from_link c k p s at
+  pub fork_there : (w : Option ℕ) → Branch → w ≡ from_slot c (k - 1) s at → w ≡ from_link c k p s at
   fork_there w b e = e ∙ slot_there (k - 1) (sym (back k b.deep)) b.some b.fine b.beaten
 
 -- the sons of a slot, in the code's order
-module _ (c : List ℕ) (k s : ℕ) (at : Stripe) (p : Pair) (l r : ℕ) (ep : p ≡ pair_at c s) (el : l ≡ left_at c s) (er : r ≡ right_at c s) where
-  module _ (lp : Stripe) (u : Checked) (elp : lp ≡ left_part at) (eu : u ≡ from_link c k p l lp) where
-    pub left_faulty : u ≡ Faulty → Faulty ≡ from_slot c k s at
+module _ (c : List ℕ) (here : Place) {p : Pair} (ep : p ≡ pair_at c here.slot) {l : Place} (el : l ≡ left_place c here) {u : Option ℕ} (eu : u ≡ from_link c l.levels p l.slot l.stripe) where
+  abbrev k : ℕ
+  k = here.levels - 1
+
+  abbrev s : ℕ
+  s = here.slot
+
+  abbrev at' : Stripe
+  at' = here.stripe
+
+  left_is : u ≡ from_link c k (pair_at c s) (left_at c s) (left_part at')
+  left_is = rw (ep, el) at eu
+
+  pub left_faulty : u ≡ None → None ≡ from_slot c k s at'
+  unfolding from_link from_slot below
+  left_faulty f = rw (was_faulty (fine c k (pair_at c s) (left_at c s) (left_part at')) (size (tree_at c k (left_at c s))) (sym left_is ∙ f))
+
+  module _ {a : ℕ} (ea : u ≡ Some a) {r : Place} (er : r ≡ right_place c here) {v : Option ℕ} (ev : v ≡ from_link c r.levels p r.slot r.stripe) where
+    fine_left : (fine c k (pair_at c s) (left_at c s) (left_part at') ≡ true) × (size (tree_at c k (left_at c s)) ≡ a)
+    unfolding from_link
+    fine_left = was_counted _ _ _ (sym left_is ∙ ea)
+
+    right_is : v ≡ from_link c k (pair_at c s) (right_at c s) (right_part at')
+    right_is = rw (ep, er) at ev
+
+    pub right_faulty : v ≡ None → None ≡ from_slot c k s at'
     unfolding from_link from_slot below
-    left_faulty f =
-        let h : fine c k (pair_at c s) (left_at c s) (left_part at) ≡ false = rw (ep, el, elp) at (was_faulty (fine c k p l lp) (size (tree_at c k l)) (sym eu ∙ f)) in
-        rw h
+    right_faulty f =
+        rw (fine_left.0, was_faulty (fine c k (pair_at c s) (right_at c s) (right_part at')) (size (tree_at c k (right_at c s))) (sym right_is ∙ f))
 
-    module _ (a : ℕ) (ea : u ≡ Counted a) where
-      pub left_fine : (fine c k p l lp ≡ true) × (size (tree_at c k l) ≡ a)
+    module _ {b : ℕ} (eb : v ≡ Some b) where
+      fine_right : (fine c k (pair_at c s) (right_at c s) (right_part at') ≡ true) × (size (tree_at c k (right_at c s)) ≡ b)
       unfolding from_link
-      left_fine = was_counted _ _ _ (sym eu ∙ ea)
+      fine_right = was_counted _ _ _ (sym right_is ∙ eb)
 
-      module _ (rp : Stripe) (v : Checked) (erp : rp ≡ right_part at) (ev : v ≡ from_link c k p r rp) where
-        fine_left : fine c k (pair_at c s) (left_at c s) (left_part at) ≡ true
-        fine_left = rw (ep, el, elp) at left_fine.0
+      module _ (y : Bool) (ey : not y ≡ alone p.x at' (tree_here c (left_place c here)) (tree_here c (right_place c here))) where
+        alone_here : (z : Bool) → not y ≡ z → alone (pair_at c s).x at' (tree_at c k (left_at c s)) (tree_at c k (right_at c s)) ≡ z
+        alone_here z h = rw ep at (sym ey ∙ h)
 
-        pub right_faulty : v ≡ Faulty → Faulty ≡ from_slot c k s at
-        unfolding from_link from_slot below
-        right_faulty f =
-            let h : fine c k (pair_at c s) (right_at c s) (right_part at) ≡ false = rw (ep, er, erp) at (was_faulty (fine c k p r rp) (size (tree_at c k r)) (sym ev ∙ f)) in
-            rw (fine_left, h)
+        pub again_faulty : y ≡ true → None ≡ from_slot c k s at'
+        unfolding from_slot below
+        again_faulty t = rw (fine_left.0, fine_right.0, alone_here false (ap not t))
 
-        module _ (b : ℕ) (eb : v ≡ Counted b) (y : Bool) (ey : not y ≡ alone p.x at (tree_at c k l) (tree_at c k r)) where
-          pub right_fine : (fine c k p r rp ≡ true) × (size (tree_at c k r) ≡ b)
-          unfolding from_link
-          right_fine = was_counted _ _ _ (sym ev ∙ eb)
-
-          fine_right : fine c k (pair_at c s) (right_at c s) (right_part at) ≡ true
-          fine_right = rw (ep, er, erp) at right_fine.0
-
-          alone_here : (z : Bool) → not y ≡ z → alone (pair_at c s).x at (tree_at c k (left_at c s)) (tree_at c k (right_at c s)) ≡ z
-          alone_here z h = rw (ep, el, er) at (sym ey ∙ h)
-
-          pub again_faulty : y ≡ true → Faulty ≡ from_slot c k s at
-          unfolding from_slot below
-          again_faulty t = rw (fine_left, fine_right, alone_here false (ap not t))
-
-          pub both_counted : y ≡ false → Counted (a + b + 1) ≡ from_slot c k s at
-          unfolding from_slot below
-          both_counted t =
-              let m : size (tree_at c k (left_at c s)) ≡ a = rw el at left_fine.1 in
-              let n : size (tree_at c k (right_at c s)) ≡ b = rw er at right_fine.1 in
-              rw (fine_left, fine_right, alone_here true (ap not t), m, n)
+        pub both_counted : y ≡ false → Some (a + b + 1) ≡ from_slot c k s at'
+        unfolding from_slot below
+        both_counted t = rw (fine_left.0, fine_right.0, alone_here true (ap not t), fine_left.1, fine_right.1)
 
 -- a link that is found fine leads to the tree that is read, so its tree may be searched
-pub may_search : (c : List ℕ) (k : ℕ) (p : Pair) (s : ℕ) (sp at : Stripe) (u : Checked) (a : ℕ) → u ≡ from_link c k p s sp → u ≡ Counted a → Low at
-    → Sought c k s at
+pub may_search : (c : List ℕ) (p : Pair) (q here : Place) (u : Option ℕ) (a : ℕ) → u ≡ from_link c here.levels p here.slot here.stripe → u ≡ Some a → here ≡ q → LeadsHere c q
 unfolding from_link
-may_search c k p s sp at u a eu ea l =
-    record { leads = (fine_true c k p s sp (was_counted _ _ _ (sym eu ∙ ea)).0).fine.leads; low = l }
+may_search c p q here u a eu ea e = rw e at (fine_true c here.levels p here.slot here.stripe (was_counted _ _ _ (sym eu ∙ ea)).0).fine.leads
 
 -- a count is of few slots
-pub few_counted : (c : List ℕ) (k : ℕ) (p : Pair) (s : ℕ) (at : Stripe) (u : Checked) (a : ℕ) → k ≤ low_levels → u ≡ from_link c k p s at → u ≡ Counted a
+pub few_counted : (c : List ℕ) (k : ℕ) (p : Pair) (s : ℕ) (at : Stripe) (u : Option ℕ) (a : ℕ) → k ≤ low_levels → u ≡ from_link c k p s at → u ≡ Some a
     → a < 4294967296
 unfolding from_link
 few_counted c k p s at u a h eu ea =

@@ -1,17 +1,16 @@
 -- A son's own tests, one at a time: where one fails, what is there is not fine; where they pass, its cells are there. Nothing is assumed
 -- of the cells.
-use Prim.Native.Nat.{ℕ, suc, ◌-◌, ◌/◌, ◌≤◌, ◌<◌}
+use Prim.Native.Nat.{ℕ, suc, ◌-◌, ◌≤◌}
 use mathlib.Core.Path.{◌≡◌, refl, sym, ◌∙◌}
 use mathlib.Core.Bool.{Bool, true, false}
 use mathlib.Core.List.{List}
 use native.Mathlib.Omega.{arith}
 use lib.Dec.{leb}
-use lib.ListN.{length}
-use borrow.Author.Tests.{ne_eqb, le-leb, lt-leb, leb-true}
+use borrow.Author.Tests.{ne_eqb, leb-true}
 use Rattle.kinds.specs.declared.Pair.{Pair}
 use Rattle.kinds.specs.Pairs.{beats}
 use Rattle.stripes.specs.Stripe.{Stripe, holds}
-use Rattle.pools.specs.Cells.{per_slot, slots_of, pair_at}
+use Rattle.pools.specs.Cells.{slots_of, pair_at}
 use Rattle.pools.specs.Links.{Fits}
 use Rattle.pools.specs.Test.{slot_fine, fine}
 use Rattle.tree.specs.declared.Son.TheVariants.{Bad}
@@ -20,14 +19,6 @@ use Rattle.kinds.proofs.Tests.{both, and_false}
 use Rattle.pools.proofs.Leads.{back}
 
 module _ (c : List ℕ) (s : ℕ) (at : Stripe) where
-  pub too_far : 1 ≤ s → length c / per_slot ≤ s → false ≡ slot_fine c s at
-  unfolding slot_fine
-  too_far o h = rw (lt-leb s (slots_of c) (omega arith))
-
-  pub in_stripe : (p : Pair) (b : Bool) → s < length c / per_slot → p ≡ pair_at c s → b ≡ holds at p.x → b ≡ slot_fine c s at
-  unfolding slot_fine
-  in_stripe p b h e f = rw (le-leb s (slots_of c) (omega arith)) (rw e at f)
-
   pub fine_fits : (b : Bool) → 1 ≤ s → b ≡ slot_fine c s at → b ≡ true → Fits c s
   unfolding slot_fine
   fine_fits b o e t = let h = leb-true s (slots_of c) (both (leb s (slots_of c)) (holds at (pair_at c s).x) (sym e ∙ t)).0 in omega arith
@@ -44,12 +35,6 @@ module _ (c : List ℕ) (k : ℕ) (p : Pair) (s : ℕ) (at : Stripe) (ne : s ≡
   bad_order : (j : ℕ) → k ≡ suc j → beats p (pair_at c s) ≡ false → fine c k p s at ≡ false
   unfolding fine
   bad_order j e h = rw (e, ne_eqb s 0 ne, h, and_false (slot_fine c s at) false refl)
-
-  pub faulty_slot : (b : Bool) → (k ≡ 0 → ⊥) → b ≡ slot_fine c s at → b ≡ false → fine c k p s at ≡ false
-  faulty_slot b d e f = bad_slot (k - 1) (sym (back k d)) (sym e ∙ f)
-
-  pub faulty_order : (q : Pair) (b : Bool) → (k ≡ 0 → ⊥) → q ≡ pair_at c s → b ≡ beats p q → b ≡ false → fine c k p s at ≡ false
-  faulty_order q b d eq e f = bad_order (k - 1) (sym (back k d)) (rw eq at (sym e ∙ f))
 
   -- what is not fine, said of the son
   pub bad_deep : k ≡ 0 → SonIs c k p s at Bad

@@ -1,2 +1,3 @@
 pub mod Nearer
 pub mod Asking
+pub mod Sides

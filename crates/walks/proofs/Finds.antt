@@ -1,5 +1,6 @@
 -- Each walk finds what a scan of the tree's members finds. The slot's rule gives the closest of its pair and its sons' best, whatever the sons
 -- answer; each walk's induction only plugs in. It assumes a well-formed tree.
+use Rattle.std.specs.Prelude.{Option, None}
 use Prim.Native.Nat.{ℕ, ◌<◌}
 use mathlib.Core.Path.{◌≡◌, refl, sym, ap, ◌∙◌}
 use mathlib.Core.Bool.{Bool, true, false, not, ◌&&◌, ◌||◌}
@@ -8,8 +9,6 @@ use lib.Dec.{ltb, leb, eqb}
 use borrow.Author.Tests.{le-ltb}
 use Rattle.kinds.specs.declared.Pair.{Pair}
 use Rattle.kinds.specs.declared.Limits.{Limits}
-use Rattle.kinds.specs.declared.Finding.{Finding}
-use Rattle.kinds.specs.declared.Finding.TheVariants.{Nothing}
 use Rattle.kinds.specs.declared.Walked.{Walked}
 use Rattle.kinds.specs.Pairs.{beats}
 use Rattle.plain.specs.Plain.{in_range, matches, own, closest, smaller, larger, smallest_x_of, largest_x_of, smallest_y_of}
@@ -24,7 +23,7 @@ use Rattle.walks.proofs.Best.{best, scan_best, best_none, best_sat}
 use Rattle.walks.proofs.Outside.{left_out, right_out, left_none, right_none, all_none}
 
 -- a son that is asked or holds nothing
-ask_is : (c : Bool) (w : Walked) (f : Finding) → w.finding ≡ f → (c ≡ false → f ≡ Nothing) → (ask c w).finding ≡ f
+ask_is : (c : Bool) (w : Walked) (f : Option Pair) → w.finding ≡ f → (c ≡ false → f ≡ None) → (ask c w).finding ≡ f
 ask_is true w f e g = e
 ask_is false w f e g = sym (g refl)
 
@@ -36,10 +35,10 @@ across ok closer s u l r f g h =
 
 module _ (q : Limits) {closer : Pair → Pair → Bool} (R : Ranks closer) where
   -- nothing of the second is closer than what the first gave
-  abbrev Ahead : Finding → Finding → Type 0
+  abbrev Ahead : Option Pair → Option Pair → Type 0
   Ahead f g = Sat (λ v. Sat (λ w. closer w v ≡ false) g) f
 
-  or_else_is : (f g : Finding) (b : Walked) → b.finding ≡ g → Ahead f g → (or_else f b).finding ≡ closest closer f g
+  or_else_is : (f g : Option Pair) (b : Walked) → b.finding ≡ g → Ahead f g → (or_else f b).finding ≡ closest closer f g
   or_else_is f g b e sat_none = e
   or_else_is f g b e (sat_one h) = sym (closest_first (matches q) closer h)
 
@@ -93,7 +92,7 @@ module _ (q : Limits) where
       (across (matches q) larger (right_part s) (left_part s) r l w.right w.left (λ v z i j. one_way (matches q) R v z (omega arith)))))
 
 -- two tests that agree on what is compared
-closest_same : (c d : Pair → Pair → Bool) {f g : Finding} → Sat (λ v. Sat (λ w. c w v ≡ d w v) g) f → closest c f g ≡ closest d f g
+closest_same : (c d : Pair → Pair → Bool) {f g : Option Pair} → Sat (λ v. Sat (λ w. c w v ≡ d w v) g) f → closest c f g ≡ closest d f g
 closest_same c d sat_none = refl
 closest_same c d (sat_one sat_none) = refl
 closest_same c d (sat_one (sat_one e)) = rw e

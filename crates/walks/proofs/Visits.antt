@@ -1,4 +1,5 @@
 -- At the root no search makes more than 127 visits. Shown once for all 32 levels. It assumes a well-formed tree.
+use Rattle.std.specs.Prelude.{Option, Some, None}
 use Prim.Native.Nat.{ℕ, zero, suc, ◌+◌, ◌≤◌}
 use mathlib.Core.Path.{◌≡◌, refl}
 use mathlib.Core.Bool.{Bool, true, false}
@@ -6,8 +7,6 @@ use native.Mathlib.Omega.{arith}
 use lib.Dec.{ltb, leb}
 use Rattle.kinds.specs.declared.Pair.{Pair}
 use Rattle.kinds.specs.declared.Limits.{Limits}
-use Rattle.kinds.specs.declared.Finding.{Finding}
-use Rattle.kinds.specs.declared.Finding.TheVariants.{Found, Nothing}
 use Rattle.kinds.specs.declared.Walked.{Walked}
 use Rattle.plain.specs.Plain.{in_range, matches, own, closest, smaller, larger}
 use Rattle.stripes.specs.Stripe.{Stripe, root_stripe, middle, left_part, right_part}
@@ -44,7 +43,7 @@ module _ (x0 x1 : ℕ) where
 
 -- both x walks: visits at most f where nothing is found, and at most k
 record Cost (f k : ℕ) (w : Walked) : Type 0 where
-  miss : w.finding ≡ Nothing → w.visits ≤ f
+  miss : w.finding ≡ None → w.visits ≤ f
   all : w.visits ≤ k
 
 cost_ask : (c : Bool) (w : Walked) {f k : ℕ} → (c ≡ true → Cost f k w) → Cost f k (ask c w)
@@ -56,28 +55,28 @@ cost_none w e t = absurd (clash t e)
 
 module _ (closer : Pair → Pair → Bool) where
   -- where the closer of two is nothing, so are both
-  miss_first : (f g : Finding) → closest closer f g ≡ Nothing → f ≡ Nothing
-  miss_first Nothing g e = refl
-  miss_first (Found p) Nothing e = e
-  miss_first (Found p) (Found q) e = on (closer q p) (λ t. cc) (λ t. cc)
+  miss_first : (f g : Option Pair) → closest closer f g ≡ None → f ≡ None
+  miss_first None g e = refl
+  miss_first (Some p) None e = e
+  miss_first (Some p) (Some q) e = on (closer q p) (λ t. cc) (λ t. cc)
 
-  miss_second : (f : Finding) (p : Pair) → closest closer f (Found p) ≡ Nothing → ◌≡◌ {A = ℕ} 0 1
-  miss_second Nothing p e = cc
-  miss_second (Found q) p e = on (closer p q) (λ t. cc) (λ t. cc)
+  miss_second : (f : Option Pair) (p : Pair) → closest closer f (Some p) ≡ None → ◌≡◌ {A = ℕ} 0 1
+  miss_second None p e = cc
+  miss_second (Some q) p e = on (closer p q) (λ t. cc) (λ t. cc)
 
   module _ (q : Limits) (p : Pair) (a b : Walked) where
     -- the slot's rule, whatever the sons cost: the second son is asked only where the first gave nothing
-    cost_sons : {fa ka fb kb : ℕ} → Cost fa ka a → Cost fb kb b → (g : Finding) → a.finding ≡ g → (f k : ℕ) → ka + 1 ≤ k → fa + kb + 1 ≤ k → fa + fb + 1 ≤ f
+    cost_sons : {fa ka fb kb : ℕ} → Cost fa ka a → Cost fb kb b → (g : Option Pair) → a.finding ≡ g → (f k : ℕ) → ka + 1 ≤ k → fa + kb + 1 ≤ k → fa + fb + 1 ≤ f
         → Cost f k (record {
           finding = closest closer (or_else g b).finding (own (matches q) p);
           visits = a.visits + (or_else g b).visits + 1;
         })
-    cost_sons ca cb Nothing e f k h i j = record {
+    cost_sons ca cb None e f k h i j = record {
       miss = λ d. omega (arith, ca.miss e, cb.miss (miss_first b.finding (own (matches q) p) d));
       all = omega (arith, ca.miss e, cb.all);
     }
-    cost_sons ca cb (Found v) e f k h i j = record {
-      miss = λ d. let z : ◌≡◌ {A = ℕ} 0 1 = cc (miss_first (Found v) (own (matches q) p) d) in omega arith;
+    cost_sons ca cb (Some v) e f k h i j = record {
+      miss = λ d. let z : ◌≡◌ {A = ℕ} 0 1 = cc (miss_first (Some v) (own (matches q) p) d) in omega arith;
       all = omega (arith, ca.all);
     }
 
@@ -86,7 +85,7 @@ module _ (closer : Pair → Pair → Bool) where
         (λ t. rw t (cost_sons ca cb a.finding refl f k h i j))
 
     -- a slot whose x is in range finds something, or is the only one visited
-    miss_one : q.x0 ≤ p.x → p.x ≤ q.x1 → (x_rule closer q p a b).finding ≡ Nothing → (x_rule closer q p a b).visits ≤ 1
+    miss_one : q.x0 ≤ p.x → p.x ≤ q.x1 → (x_rule closer q p a b).finding ≡ None → (x_rule closer q p a b).visits ≤ 1
     miss_one h k = on (ltb q.y1 p.y) (λ e. rw e (λ _. omega arith))
         (λ e. rw (e, is_match q p h k e) (λ d. let z = miss_second (or_else a.finding b).finding p d in omega arith))
 

@@ -1,54 +1,52 @@
 -- The four walks over a tree, with the slots that each visits.
-use Rattle.std.specs.Prelude.{ℕ, zero, suc, ◌+◌, ◌-◌, ◌/◌, Bool, true, false, cond, List, [], ◌∷◌, ◌++◌, ltb, leb, length, drop}
+use Rattle.std.specs.Prelude.{ℕ, zero, suc, ◌+◌, ◌-◌, ◌/◌, Bool, true, false, cond, List, [], ◌∷◌, ◌++◌, ltb, leb, length, drop, Option, Some, None}
 use Rattle.kinds.specs.declared.Pair.{Pair}
 use Rattle.kinds.specs.declared.Limits.{Limits}
-use Rattle.kinds.specs.declared.Finding.{Finding}
-use Rattle.kinds.specs.declared.Finding.TheVariants.{Found, Nothing}
 use Rattle.kinds.specs.declared.Walked.{Walked}
 use Rattle.plain.specs.Plain.{in_range, matches, own, closest, smaller, larger}
 use Rattle.stripes.specs.Stripe.{Stripe, middle, left_part, right_part}
 use Rattle.trees.specs.Tree.{Tree, none, fork}
 
 -- a finding, after so many visits
-abbrev pub seen : Finding → ℕ → Walked
+abbrev pub seen : Option Pair → ℕ → Walked
 seen f v = record { finding = f; visits = v }
 
 -- a son that is asked or not
 abbrev pub ask : Bool → Walked → Walked
 ask true w = w
-ask false w = seen Nothing 0
+ask false w = seen None 0
 
 -- a son that is asked only if the first gave nothing
-abbrev pub or_else : Finding → Walked → Walked
-or_else Nothing w = w
-or_else (Found p) w = seen (Found p) 0
+abbrev pub or_else : Option Pair → Walked → Walked
+or_else None w = w
+or_else (Some p) w = seen (Some p) 0
 
 -- the rule of both x walks at a slot: nothing if its y > y1; else the first son, the second if the first gave nothing, then its own pair if that is
 -- in range and closer than what was found
 abbrev pub x_rule : (Pair → Pair → Bool) → Limits → Pair → Walked → Walked → Walked
 x_rule closer q p first second =
     let sons = or_else first.finding second in
-    cond (ltb q.y1 p.y) (seen Nothing 1) (seen (closest closer sons.finding (own (matches q) p)) (first.visits + sons.visits + 1))
+    cond (ltb q.y1 p.y) (seen None 1) (seen (closest closer sons.finding (own (matches q) p)) (first.visits + sons.visits + 1))
 
 -- smallest x: left if x0 < m, then right if m ≤ x1
 unfoldable pub smallest_x : Limits → Stripe → Tree Pair → Walked
-smallest_x q s none = seen Nothing 0
+smallest_x q s none = seen None 0
 smallest_x q s (fork i p l r) =
     x_rule smaller q p (ask (ltb q.x0 (middle s)) (smallest_x q (left_part s) l)) (ask (leb (middle s) q.x1) (smallest_x q (right_part s) r))
 
 -- largest x, the mirror: right if m ≤ x1, then left if x0 < m
 unfoldable pub largest_x : Limits → Stripe → Tree Pair → Walked
-largest_x q s none = seen Nothing 0
+largest_x q s none = seen None 0
 largest_x q s (fork i p l r) =
     x_rule larger q p (ask (leb (middle s) q.x1) (largest_x q (right_part s) r)) (ask (ltb q.x0 (middle s)) (largest_x q (left_part s) l))
 
 -- smallest y: the slot's own pair if its x is in range; otherwise the better of its sons' answers, left on equal y
 unfoldable pub smallest_y : ℕ → ℕ → Stripe → Tree Pair → Walked
-smallest_y x0 x1 s none = seen Nothing 0
+smallest_y x0 x1 s none = seen None 0
 smallest_y x0 x1 s (fork i p l r) =
     let a = ask (ltb x0 (middle s)) (smallest_y x0 x1 (left_part s) l) in
     let b = ask (leb (middle s) x1) (smallest_y x0 x1 (right_part s) r) in
-    cond (in_range x0 x1 p) (seen (Found p) 1) (seen (closest (λ p q. ltb p.y q.y) a.finding b.finding) (a.visits + b.visits + 1))
+    cond (in_range x0 x1 p) (seen (Some p) 1) (seen (closest (λ p q. ltb p.y q.y) a.finding b.finding) (a.visits + b.visits + 1))
 
 -- what a listing has listed, whether a match found no room, and its visits
 pub record ListWalked : Type 0 where

@@ -1,23 +1,21 @@
--- The code of the slots refuses; else the walk answers, within the x of the limits of last. It assumes a sound pool.
-use mathlib.Core.Path.{sym, ◌∙◌}
+-- The slots are refused; else the walk answers, with the limits of last. The pool is sound by its type.
+use mathlib.Core.Path.{refl}
+use Rattle.std.proofs.lemmas.Result.{err_from_is_err_and}
 use Rattle.plain.specs.Strips.{plain_earliest}
-use Rattle.strip.proofs.Fitting.{slots_small}
+use Rattle.pools.proofs.Held.{sound_held}
 use Rattle.promises.specs.Promises.{earliest_start}
-use Rattle.promises.proofs.Ways.{slots_refused, slots_pass}
+use Rattle.promises.proofs.Ways.{lines_refuse, lines_pass}
 use Rattle.promises.proofs.Asked.{smallest_y_gives}
 use Rattle.ask.proofs.earliest_start.Goals as goal
 
-pub returns-then-code-ne-DONE : goal.returns-then-code-ne-DONE
+pub returns-in_err-slots : goal.returns-in_err-slots
 unfolding earliest_start plain_earliest
-returns-then-code-ne-DONE c =
-    slots_refused c.args.u c.args.v c.slots_code-code.ensures c.if-code-ne-DONE.true c.refused.ensures
-
-pub last-q-requires : goal.last-q-requires
-last-q-requires c =
-    slots_small c.args.u c.args.v (sym c.slots_code-code.ensures ∙ c.if-code-ne-DONE.false)
+returns-in_err-slots c =
+    let p = err_from_is_err_and c.from_residual.result c.from_residual.ensures.1 in
+    rw (p.1, p.2) (lines_refuse _ c.in_err-slots.ensures refl)
 
 pub returns : goal.returns
 unfolding earliest_start plain_earliest
 returns c =
-    slots_pass c.args.u c.args.v c.slots_code-code.ensures c.if-code-ne-DONE.false
-    (rw c.last-q.ensures at (smallest_y_gives c.requires _ _ c.smallest_y.ensures c.walked.ensures))
+    let e = c.in_ok-slots.ensures in
+    lines_pass _ e.0 (rw (c.last-q.ensures, e.1, e.2) at (smallest_y_gives (sound_held c.args.pool.sound) _ _ c.smallest_y.ensures))

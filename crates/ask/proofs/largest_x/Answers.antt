@@ -1,17 +1,16 @@
--- Backwards limits are refused; else the walk answers. It assumes a sound pool.
+-- Backwards limits are refused; else the walk answers. The pool is sound by its type.
+use mathlib.Core.Path.{refl}
+use Rattle.pools.proofs.Held.{sound_held}
 use Rattle.promises.proofs.Ways.{limits_backwards, limits_pass}
 use Rattle.plain.specs.Books.{plain_largest_x}
-use Rattle.plain.specs.Plain.{limits}
 use Rattle.promises.specs.Promises.{largest_x_asked}
 use Rattle.promises.proofs.Asked.{largest_x_gives}
 use Rattle.ask.proofs.largest_x.Goals as goal
 
-pub returns-then-x1-x0 : goal.returns-then-x1-x0
+pub returns-then-q : goal.returns-then-q
 unfolding largest_x_asked plain_largest_x
-returns-then-x1-x0 c =
-    limits_backwards c.args.x0 c.args.x1 c.if-x1-x0.true c.refused.ensures
+returns-then-q c = limits_backwards c.args.q.x0 c.args.q.x1 c.if-q.true refl
 
 pub returns : goal.returns
 unfolding largest_x_asked plain_largest_x
-returns c =
-    limits_pass c.args.x0 c.args.x1 c.if-x1-x0.false (largest_x_gives c.requires (limits c.args.x0 c.args.x1 c.args.y1) c.largest_x.ensures c.walked.ensures)
+returns c = limits_pass c.args.q.x0 c.args.q.x1 c.if-q.false (largest_x_gives (sound_held c.args.pool.sound) c.args.q c.largest_x.ensures)

@@ -1,23 +1,26 @@
 -- The invariant: what is still to be read gives what was to be read at first. Nothing is assumed.
-use mathlib.Core.Path.{refl, sym, ◌∙◌}
-use Rattle.decimal.proofs.Digits.{first_byte, no_byte, no_digit, too_large, next_byte}
+use Prim.Native.Nat.{◌+◌, ◌*◌}
+use mathlib.Core.Path.{◌≡◌, refl, ◌∙◌}
+use native.Mathlib.Omega.{arith}
+use Rattle.decimal.proofs.Digits.{first_byte, no_digit, digit_worth, too_large, next_byte}
 use Rattle.decimal.proofs.digits_in.Goals as goal
 
-pub loop-i-init : goal.loop-i-init
-loop-i-init c = first_byte _
+pub loop-b-init : goal.loop-b-init
+loop-b-init c = first_byte _
 
-pub returns-then-not-is_digit : goal.returns-then-not-is_digit
-returns-then-not-is_digit c =
-    no_digit _ _ _ c.loop-i.invariant c.loop-i-test.true _ refl (sym c.is_digit.ensures ∙ c.if-not-is_digit.true)
+pub returns-in_err-checked_mul : goal.returns-in_err-checked_mul
+returns-in_err-checked_mul c =
+    c.from_residual.ensures ∙ too_large _ _ _ c.loop-b.invariant c.loop-b-test.true _ refl (omega (arith, c.in_err-checked_mul.ensures))
 
-pub returns-then-sum-gt-LARGEST_32 : goal.returns-then-sum-gt-LARGEST_32
-returns-then-sum-gt-LARGEST_32 c =
-    too_large _ _ _ c.loop-i.invariant c.loop-i-test.true _ refl (sym c.is_digit.ensures ∙ c.if-not-is_digit.false) _ c.wide.ensures c.if-sum-gt-LARGEST_32.true
+pub returns-in_err-digit : goal.returns-in_err-digit
+returns-in_err-digit c = c.from_residual-in_err-digit.ensures ∙ no_digit _ _ _ c.loop-b.invariant c.loop-b-test.true _ refl c.in_err-digit.ensures
 
-pub loop-i-preserved : goal.loop-i-preserved
-loop-i-preserved c =
-    next_byte _ _ _ c.loop-i.invariant c.loop-i-test.true _ refl (sym c.is_digit.ensures ∙ c.if-not-is_digit.false) _ c.wide.ensures c.if-sum-gt-LARGEST_32.false
+pub returns-in_err-n : goal.returns-in_err-n
+returns-in_err-n c =
+    let d = digit_worth _ _ _ c.loop-b.invariant c.loop-b-test.true _ refl _ c.in_ok-digit.ensures in
+    c.from_residual-in_err-n.ensures ∙ too_large _ _ _ c.loop-b.invariant c.loop-b-test.true _ refl (omega (arith, d, c.in_ok-checked_mul.ensures, c.in_err-n.ensures))
 
-pub returns : goal.returns
-returns c =
-    no_byte _ _ _ c.loop-i.invariant c.loop-i-test.false
+pub loop-b-preserved : goal.loop-b-preserved
+loop-b-preserved c =
+    let e : c.in_ok-n.n ≡ c.loop-b.n * 10 + c.in_ok-digit.field-0 = omega (arith, c.in_ok-checked_mul.ensures, c.in_ok-n.ensures) in
+    rw e (next_byte _ _ _ c.loop-b.invariant c.loop-b-test.true _ refl _ c.in_ok-digit.ensures (omega (arith, c.in_ok-checked_mul.ensures, c.in_ok-n.ensures)))

@@ -6,8 +6,8 @@ use Rattle.down.proofs.+carry.Goals as goal
 pub returns-then-slot-eq0 : goal.returns-then-slot-eq0
 returns-then-slot-eq0 t c = put_there c.requires c.if-slot-eq0.true c.take_free.ensures
 
-pub overflow_sub-levels : goal.overflow_sub-levels
-overflow_sub-levels t c = some_left c.requires c.if-slot-eq0.false
+pub overflow_sub-son : goal.overflow_sub-son
+overflow_sub-son t c = some_left c.requires c.if-slot-eq0.false
 
 pub is_left-requires : goal.is_left-requires
 is_left-requires t c = (some_left c.requires c.if-slot-eq0.false, c.requires.few)

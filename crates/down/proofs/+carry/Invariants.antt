@@ -2,4 +2,4 @@
 use Rattle.down.proofs.+carry.Given as goal
 
 abbrev pub decreases-carry : goal.decreases-carry
-decreases-carry l = l.levels
+decreases-carry l = l.place.levels

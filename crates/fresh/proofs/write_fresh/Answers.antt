@@ -7,11 +7,9 @@ use Rattle.fresh.proofs.write_fresh.Goals as goal
 pub loop-slot-preserved : goal.loop-slot-preserved
 loop-slot-preserved c = record {
   whole = c.put_free.auto.pool ∙ c.loop-slot.invariant.whole;
-  low = omega arith;
-  high = omega arith;
   chain = turn _ _ _ _ c.loop-slot-test.true c.put_free.ensures ∙ c.loop-slot.invariant.chain;
 }
 
 pub returns : goal.returns
 returns c =
-    last_chained _ _ _ _ (omega (arith, c.loop-slot-test.false, c.loop-slot.invariant.high)) c.put_free-2.ensures ∙ c.loop-slot.invariant.chain ∙ whole_chain _ _ c.requires c.put_header.ensures
+    last_chained _ _ _ _ (omega arith) c.put_free-2.ensures ∙ c.loop-slot.invariant.chain ∙ whole_chain _ _ c.requires c.put_header.ensures

@@ -1,5 +1,5 @@
 -- The invariant: what is still to be chained, done, gives what was to be chained at first. It assumes that the length is a pool's.
-use Prim.Native.Nat.{suc, ◌+◌, ◌*◌, ◌-◌, ◌≤◌}
+use Prim.Native.Nat.{suc, ◌+◌, ◌*◌, ◌-◌}
 use mathlib.Core.Path.{◌≡◌}
 use lib.ListN.{length}
 use Rattle.pools.specs.Cells.{per_slot}
@@ -9,10 +9,5 @@ use Rattle.fresh.proofs.write_fresh.Given as goal
 abbrev pub invariant-loop-slot : goal.invariant-loop-slot
 invariant-loop-slot l = record {
   whole : length l.pool ≡ per_slot * (l.n + 1);
-  low : 1 ≤ l.slot;
-  high : l.slot ≤ l.n;
   chain : chained l.pool l.slot (suc (l.n - l.slot)) ≡ chained l.initial.pool l.initial.slot (suc (l.n - l.initial.slot));
 }
-
-abbrev pub decreases-loop-slot : goal.decreases-loop-slot
-decreases-loop-slot l = l.n - l.slot

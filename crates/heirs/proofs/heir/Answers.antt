@@ -3,18 +3,18 @@
 use Rattle.heirs.proofs.Finding.{no_heir, only_right, only_left, both_sons}
 use Rattle.heirs.proofs.heir.Goals as goal
 
-pub returns-then-right-eq0 : goal.returns-then-right-eq0
-returns-then-right-eq0 c =
-    no_heir _ _ c.left-left.ensures c.right-right.ensures c.if-left-eq0.true c.if-right-eq0.true
+pub returns-in-0-eq0 : goal.returns-in-0-eq0
+returns-in-0-eq0 c =
+    no_heir _ _ c.left-left.ensures c.right-right.ensures c.in-0-eq0.is-0 c.in-0-eq0.is-1
 
-pub returns-then-left-eq0 : goal.returns-then-left-eq0
-returns-then-left-eq0 c =
-    only_right _ _ c.left-left.ensures c.right-right.ensures c.if-left-eq0.true c.if-right-eq0.false c.link_cell.ensures
+pub returns-in-0-default : goal.returns-in-0-default
+returns-in-0-default c =
+    only_right _ _ c.left-left.ensures c.right-right.ensures c.in-0-default.is-0 c.in-0-default.is-1.1 c.link_cell.ensures
 
-pub returns-then-right-eq0-2 : goal.returns-then-right-eq0-2
-returns-then-right-eq0-2 c =
-    only_left _ _ c.left-left.ensures c.right-right.ensures c.if-left-eq0.false c.if-right-eq0-2.true c.link_cell-then-right-eq0-2.ensures
+pub returns-in_default-eq0 : goal.returns-in_default-eq0
+returns-in_default-eq0 c =
+    only_left _ _ c.left-left.ensures c.right-right.ensures c.in_default-eq0.is-0.1 c.in_default-eq0.is-1 c.link_cell-in_default-eq0.ensures
 
-pub returns : goal.returns
-returns c =
-    both_sons _ _ c.left-left.ensures c.right-right.ensures c.if-left-eq0.false c.if-right-eq0-2.false c.pair-l.ensures c.pair-r.ensures c.beats.ensures c.link_cell-2.ensures
+pub returns-in_default : goal.returns-in_default
+returns-in_default c =
+    both_sons _ _ c.left-left.ensures c.right-right.ensures c.in_default.is-0.1 c.in_default.is-1.1 c.pair-l.ensures c.pair-r.ensures c.beats.ensures c.link_cell-in_default.ensures

@@ -2,4 +2,4 @@
 use Rattle.hole.proofs.+fill.Given as goal
 
 abbrev pub decreases-fill : goal.decreases-fill
-decreases-fill l = l.levels
+decreases-fill l = l.hole.levels

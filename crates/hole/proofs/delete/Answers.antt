@@ -6,11 +6,11 @@ use Rattle.hole.proofs.Deletion.{ends_missing, hole_there, ends_other, some_coun
 use borrow.Author.Rules.{rules}
 use Rattle.hole.proofs.delete.Goals as goal
 
-pub offset_bounds-pool-cell : goal.offset_bounds-pool-cell
-offset_bounds-pool-cell c = let inside = (place_there c.requires c.find-end.ensures.way).inside in search rules
+pub offset_bounds-pool-end : goal.offset_bounds-pool-end
+offset_bounds-pool-end c = let inside = (place_there c.requires c.find-end.ensures.way).inside in search rules
 
-pub bounds-pool-cell : goal.bounds-pool-cell
-bounds-pool-cell c = (place_there c.requires c.find-end.ensures.way).inside
+pub bounds-pool-end : goal.bounds-pool-end
+bounds-pool-end c = (place_there c.requires c.find-end.ensures.way).inside
 
 pub returns-then-slot-eq0 : goal.returns-then-slot-eq0
 returns-then-slot-eq0 c = ends_missing c.requires c.args.p c.find-end.ensures c.if-slot-eq0.true

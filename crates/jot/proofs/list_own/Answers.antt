@@ -5,12 +5,12 @@ use Rattle.jot.proofs.list_own.Goals as goal
 
 pub returns-then-not-in_range : goal.returns-then-not-in_range
 returns-then-not-in_range c =
-    own_out _ _ c.args.x0 c.args.x1 c.args.p c.in_range.ensures c.if-not-in_range.true
+    own_out _ _ c.args.q.x0 c.args.q.x1 c.args.p c.in_range.ensures c.if-not-in_range.true
 
 pub returns-then-room_of-count : goal.returns-then-room_of-count
 returns-then-room_of-count c =
-    own_counted _ _ c.args.x0 c.args.x1 c.args.p c.in_range.ensures c.if-not-in_range.false _ c.room_of.ensures (omega arith)
+    own_counted _ _ c.args.q.x0 c.args.q.x1 c.args.p c.in_range.ensures c.if-not-in_range.false _ c.room_of.ensures (omega arith)
 
 pub returns : goal.returns
 returns c =
-    own_put _ _ c.args.x0 c.args.x1 c.args.p c.in_range.ensures c.if-not-in_range.false _ c.room_of.ensures (omega arith)
+    own_put _ _ c.args.q.x0 c.args.q.x1 c.args.p c.in_range.ensures c.if-not-in_range.false _ c.room_of.ensures (omega arith)

@@ -1,15 +1,20 @@
--- The first word, and those behind it. Nothing is assumed.
-use Prim.Native.Nat.{◌+◌}
-use mathlib.Core.Path.{sym, ◌∙◌}
-use mathlib.Core.List.{[]}
-use Rattle.line.proofs.Words.{not_a_number, last_number, numbers_go_on, the_rest}
+-- Word by word: the numbers so far and those that are left are those of the text. Nothing is assumed.
+use Rattle.line.proofs.Words.{too_few_words, all_words, too_many_words, not_a_number, one_more}
+use mathlib.Core.Path.{◌∙◌}
 use Rattle.line.proofs.numbers_in.Goals as goal
 
-pub returns-in_default : goal.returns-in_default
-returns-in_default c = not_a_number _ _ _ c.word_length-n.ensures.value (sym c.in_default.ensures)
+pub returns-in_err-rest : goal.returns-in_err-rest
+returns-in_err-rest g c = c.from_residual.ensures ∙ too_few_words _ _ _ _ _ c.loop-number.invariant c.in_err-rest.was c.loop-number-test.true
 
-pub returns-then-n-text : goal.returns-then-n-text
-returns-then-n-text c = last_number [] _ _ c.word_length-n.ensures.value _ (sym c.in-Is.ensures) c.if-n-text.true
+pub returns-in_err-number : goal.returns-in_err-number
+returns-in_err-number g c =
+    c.from_residual-in_err-number.ensures ∙ not_a_number _ _ _ _ _ c.loop-number.invariant _ c.in_ok-rest.was _ _ c.first_word.ensures c.in_err-number.ensures
 
-pub returns : goal.returns
-returns c = c.after_one.ensures ∙ numbers_go_on [] _ _ c.word_length-n.ensures.value _ (sym c.in-Is.ensures) c.if-n-text.false _ (the_rest (c.word_length-n.result + 1) c.args.text.now)
+pub loop-number-preserved : goal.loop-number-preserved
+loop-number-preserved g c = one_more _ _ _ _ _ c.loop-number.invariant _ c.in_ok-rest.was _ _ c.first_word.ensures _ c.in_ok-number.ensures c.loop-number-test.true
+
+pub returns-in-Some : goal.returns-in-Some
+returns-in-Some g c = too_many_words _ _ _ _ _ c.loop-number.invariant _ c.in-Some.is c.loop-number-test.false
+
+pub returns-in-None : goal.returns-in-None
+returns-in-None g c = all_words _ _ _ _ _ c.loop-number.invariant c.in-None.is c.loop-number-test.false

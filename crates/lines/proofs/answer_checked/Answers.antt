@@ -9,4 +9,4 @@ returns-then-too_short c =
 
 pub returns : goal.returns
 returns c =
-    (line_done _ _ _ _ _ _ _ _ (sym c.too_short.ensures ∙ c.if-too_short.false) (rw c.read_line-asked.ensures at c.perform-end.ensures.0), c.perform-end.ensures.1)
+    (line_done _ _ _ _ _ _ _ _ (sym c.too_short.ensures ∙ c.if-too_short.false) (rw c.read_line-asked.ensures at c.perform.ensures.0), c.perform.ensures.1)

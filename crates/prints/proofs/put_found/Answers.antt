@@ -12,4 +12,4 @@ put_number-requires c = let h = room_behind _ _ _ _ _ _ 44 c.put_number-strip.en
 
 pub returns : goal.returns
 returns c =
-    found_put _ _ c.numbers-n.ensures c.put_number-strip.ensures c.put_strip-visits.ensures c.put_number.ensures
+    found_put _ _ c.from-n.ensures c.put_number-strip.ensures c.put_strip-visits.ensures c.put_number.ensures

@@ -23,4 +23,4 @@ put_matches-requires c =
 
 pub returns : goal.returns
 returns c =
-    listed_put _ _ c.numbers-n.ensures _ c.put_number-count.ensures c.put_number-visits.ensures c.put_number-matches.ensures c.put_matches.ensures
+    listed_put _ _ c.from-n.ensures _ c.put_number-count.ensures c.put_number-visits.ensures c.put_number-matches.ensures c.put_matches.ensures

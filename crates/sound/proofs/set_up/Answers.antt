@@ -14,9 +14,9 @@ write_fresh-requires c =
 pub returns-then-is_pool : goal.returns-then-is_pool
 unfolding set_up
 returns-then-is_pool c =
-    accepts (length_line _ ∷ []) (ap not (sym c.is_pool.ensures ∙ c.if-is_pool.true), tt) (gives c.finished.ensures c.write_fresh.ensures refl)
+    accepts (length_line _ ∷ []) (ap not (sym c.is_pool.ensures ∙ c.if-is_pool.true), tt) (gives refl c.write_fresh.ensures refl)
 
 pub returns : goal.returns
 unfolding set_up
 returns c =
-    refuses [] (length_line _) [] tt (ap not (sym c.is_pool.ensures ∙ c.if-is_pool.false)) c.refused.ensures
+    refuses [] (length_line _) [] tt (ap not (sym c.is_pool.ensures ∙ c.if-is_pool.false)) refl

@@ -3,4 +3,4 @@ use Rattle.told.proofs.Telling.{code_told}
 use Rattle.told.proofs.code_of.Goals as goal
 
 pub returns : goal.returns
-returns c = code_told _ c.numbers.ensures
+returns c = code_told _ c.from.ensures

@@ -3,4 +3,4 @@ use Rattle.told.proofs.Telling.{all_told}
 use Rattle.told.proofs.tell.Goals as goal
 
 pub returns : goal.returns
-returns c = all_told _ c.numbers-n.ensures
+returns c = all_told _ c.from-n.ensures

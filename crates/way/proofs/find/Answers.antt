@@ -1,36 +1,34 @@
--- A place on the way is one of the tree, so its cell is there, and what it links to has a level below it. It assumes a sound pool.
+-- A place on the way is one of the tree, so its cell is there, and what it links to has a level below it. The pool is sound by its type.
 use native.Mathlib.Omega.{arith}
+use Rattle.pools.proofs.Held.{sound_held}
 use Rattle.way.specs.Way.{root}
 use Rattle.way.proofs.Ways.{few_levels, place_there, slot_on_way, a_level, way_on}
 use borrow.Author.Rules.{rules}
 use Rattle.way.proofs.find.Goals as goal
 
 pub loop-x-init : goal.loop-x-init
-loop-x-init c = (c.requires, root (record { from = omega arith; to = omega arith }))
+loop-x-init c = root (record { from = omega arith; to = omega arith })
 
 pub offset_bounds-pool-cell : goal.offset_bounds-pool-cell
-offset_bounds-pool-cell c = let h = (place_there c.loop-x.invariant.0 c.loop-x.invariant.1).inside in search rules
+offset_bounds-pool-cell c = let h = (place_there (sound_held c.args.pool.sound) c.loop-x.invariant).inside in search rules
 
 pub bounds-pool-cell : goal.bounds-pool-cell
-bounds-pool-cell c = (place_there c.loop-x.invariant.0 c.loop-x.invariant.1).inside
+bounds-pool-cell c = (place_there (sound_held c.args.pool.sound) c.loop-x.invariant).inside
 
 pub pair-q-requires : goal.pair-q-requires
-pair-q-requires c = slot_on_way c.loop-x.invariant.0 c.loop-x.invariant.1 c.if-slot-eq0.false
+pair-q-requires c = slot_on_way (sound_held c.args.pool.sound) c.loop-x.invariant c.if-slot-eq0.false
 
 pub is_left-requires : goal.is_left-requires
 is_left-requires c =
-    let turn = c.loop-x.invariant in
-    (a_level turn.0 turn.1 c.if-slot-eq0.false c.pair-q.ensures (omega arith), few_levels turn.1)
+    (a_level (sound_held c.args.pool.sound) c.loop-x.invariant c.if-slot-eq0.false c.pair-q.ensures (omega arith), few_levels c.loop-x.invariant)
 
 pub overflow_sub-levels : goal.overflow_sub-levels
 overflow_sub-levels c =
-    let turn = c.loop-x.invariant in
-    a_level turn.0 turn.1 c.if-slot-eq0.false c.pair-q.ensures (omega arith)
+    a_level (sound_held c.args.pool.sound) c.loop-x.invariant c.if-slot-eq0.false c.pair-q.ensures (omega arith)
 
 pub loop-x-smaller : goal.loop-x-smaller
 loop-x-smaller c = let some_left = overflow_sub-levels c in omega arith
 
 pub loop-x-preserved : goal.loop-x-preserved
 loop-x-preserved c =
-    let turn = c.loop-x.invariant in
-    (turn.0, way_on turn.0 turn.1 c.if-slot-eq0.false c.pair-q.ensures (omega arith) c.is_left.ensures c.link_cell-cell.ensures)
+    way_on (sound_held c.args.pool.sound) c.loop-x.invariant c.if-slot-eq0.false c.pair-q.ensures (omega arith) c.is_left.ensures c.link_cell-cell.ensures

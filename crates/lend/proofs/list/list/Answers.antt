@@ -1,7 +1,8 @@
--- What the walk lists, the answer says. It assumes a sound pool.
+-- What the walk lists, the answer says. The pool is sound by its type.
+use Rattle.pools.proofs.Held.{sound_held}
 use Rattle.lend.proofs.Listed.{listing_gives}
 use Rattle.lend.proofs.list.list.Goals as goal
 
 pub returns : goal.returns
 returns c =
-    listing_gives c.requires _ _ _ c.list-l.ensures c.listed.ensures
+    listing_gives (sound_held c.args.pool.sound) _ _ _ c.list.ensures

@@ -1,16 +1,13 @@
--- The verdict on the pool decides. Nothing is assumed.
-use Rattle.sound.proofs.Lines.{verdict_sound, entry_passed, entry_refused}
-use Rattle.promises.specs.Promises.{list_contains}
+-- The check refuses, or the call on the checked pool decides. Nothing is assumed.
+use mathlib.Core.Path.{refl}
+use Rattle.std.proofs.lemmas.Result.{err_from_is_err_and}
+use Rattle.sound.proofs.Lines.{entry_refused, entry_sound}
 use Rattle.strips.proofs.list.list_contains.Goals as goal
 
-pub returns-then-verdict-ne-DONE : goal.returns-then-verdict-ne-DONE
-returns-then-verdict-ne-DONE c =
-    entry_refused _ c.verdict-verdict.ensures (list_contains _ _ _ _) c.if-verdict-ne-DONE.true c.refused.ensures
-
-pub list_contains-requires : goal.list_contains-requires
-list_contains-requires c =
-    verdict_sound _ c.verdict-verdict.ensures c.if-verdict-ne-DONE.false
+pub returns-in_err-pool : goal.returns-in_err-pool
+returns-in_err-pool c =
+    let p = err_from_is_err_and c.from_residual.result c.from_residual.ensures.1 in
+    rw (p.1, p.2) (entry_refused _ refl _ c.in_err-pool.ensures refl)
 
 pub returns : goal.returns
-returns c =
-    entry_passed _ c.verdict-verdict.ensures c.if-verdict-ne-DONE.false c.list_contains.ensures
+returns c = rw (← c.in_ok-pool.ensures) (entry_sound c.in_ok-pool.pool.sound c.list_contains.ensures)

@@ -1,1 +1,0 @@
--- No laws of its own: those of the walk are in nearest.

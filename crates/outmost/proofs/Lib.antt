@@ -1,0 +1,1 @@
+-- No laws of its own: those of the x walks are in nearest.

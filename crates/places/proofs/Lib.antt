@@ -1,0 +1,2 @@
+-- What is there at a place that a link leads to.
+pub mod Here
