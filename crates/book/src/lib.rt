@@ -1,4 +1,4 @@
-// The stored book: the check, and then the book of the checked pool.
+// The stored book: the check, and then the book of the checked pool. A closure for the call would save a line and hide which call it is.
 #![tactic(auto)]
 
 ghost use Rattle.kinds.specs.Answer.{ended};

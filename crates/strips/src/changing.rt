@@ -1,4 +1,4 @@
-// Opening and closing a strip.
+// Opening and closing a strip, by three numbers: any are accepted, and `Strip` is what they become.
 ghost use Rattle.kinds.specs.Answer.{ended};
 ghost use Rattle.kinds.specs.Promise.{Changes};
 ghost use Rattle.sound.specs.Promises.{behind_check};
