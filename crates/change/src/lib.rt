@@ -7,7 +7,6 @@ ghost use Rattle.pools.specs.Sound.{Sound};
 ghost use Rattle.promises.specs.Promises.{insertion, deletion, opening, closing};
 ghost use Rattle.promises.specs.Checked.{Changed};
 
-use cells::SoundPool;
 use kinds::{Pair, Refusal};
 use strip::Strip;
 
@@ -16,7 +15,7 @@ pub fn insert(pool: &mut [u32], p: Pair) -> Result<(), Refusal>
     requires { Sound pool.old }
     ensures { Changed (insertion pool.old p) pool.old (ended result) pool.new }
 {
-    if down::is_stored(SoundPool { cells: &*pool }, p.x) {
+    if down::is_stored(pool, p.x) {
         return Err(Refusal::Taken);
     }
     if cells::first_free(pool) == 0 {

@@ -5,8 +5,6 @@ use crate::draws::{Sort, Turn, below, growing, shrinking};
 use crate::kind::Kind;
 use crate::step::Desk;
 use kinds::Refusal;
-use std::alloc::AllocError;
-use std::mem;
 
 // What is put in a cell: an x in the other half of the root's stripe, the largest y, a link to the slot itself, or a bit turned over.
 fn damaged(old: u32, cell: usize, drawn: u32) -> u32 {
@@ -73,81 +71,58 @@ impl Desk {
         self.call_of(self.kind_at(turn), turn)
     }
 
-    // The four cells of a slot: x, y, and two links. Before the first one the second cell is the root, the last one the count.
-    pub fn slot(&self, i: usize) -> [u32; 4] {
-        let (slots, _) = self.pool.as_chunks::<4>();
-        slots.get(i).copied().unwrap_or_default()
-    }
-
     // Whether a son of a slot would beat it if its y were the largest.
     fn is_beaten(&self, slot: usize) -> bool {
-        let [_, _, left, right] = self.slot(slot);
+        let [_, _, left, right] = self.pool.slot(slot);
         let son = if left == 0 { right } else { left };
-        son == u32::MAX || son != 0 && self.slot(son as usize)[1] != u32::MAX
+        son == u32::MAX || son != 0 && self.pool.slot(son as usize)[1] != u32::MAX
     }
 
     // A cell to damage; the first one where the pool might stay sound, at x of the root, and at y of a slot that no son would beat.
     fn cell_for(&self, drawn: u32) -> usize {
-        let among = if drawn % 4 == 0 { 4 } else { self.pool.len() };
+        let among = if drawn % 4 == 0 { 4 } else { self.pool.len };
         let cell = below(among, drawn / 4);
         let is_safe = match cell % 4 {
-            0 => cell / 4 == self.slot(0)[1] as usize,
+            0 => cell / 4 == self.pool.slot(0)[1] as usize,
             1 => !self.is_beaten(cell / 4),
             _ => false,
         };
         if 3 < cell && is_safe { 0 } else { cell }
     }
 
-    // Makes a call on another pool in place of the desk's, which is refused.
-    fn refuse(
-        &mut self,
-        rt: &impl Print,
-        other: Vec<u32>,
-        asked: Call,
-        refusal: Refusal,
-        turn: Turn,
-    ) -> Result<(), AllocError> {
-        let pool = mem::replace(&mut self.pool, other);
-        self.one(rt, asked, Some(refusal), turn)?;
-        self.pool = pool;
-        Ok(())
-    }
-
     // Makes any call on a pool of a length that is too small, too large or uneven.
-    fn refuse_length(&mut self, rt: &impl Print, turn: Turn) -> Result<(), AllocError> {
+    fn refuse_length(&mut self, rt: &impl Print, turn: Turn) {
         let kind = Kind::ALL[(turn.draw(14) % 17) as usize];
         let asked = self.call_of(kind, turn);
         let drawn = turn.draw(13);
-        let len = match drawn % 8 {
+        let lent = self.pool.len;
+        let other = match drawn % 8 {
             0 => 0,
             1 => 4,
             2 => 16388,
-            _ => below(self.pool.len(), drawn / 32) | (drawn / 8 % 3 + 1) as usize,
+            _ => below(lent, drawn / 32) | (drawn / 8 % 3 + 1) as usize,
         };
-        let mut other = self.pool.clone()?;
-        other.resize(len, 0)?;
-        self.refuse(rt, other, asked, Refusal::Length, turn)?;
+        self.pool.lend(other);
+        let _ = self.one(rt, asked, Some(Refusal::Length), turn);
+        self.pool.lend(lent);
         count(&mut self.counts.lengths);
-        Ok(())
     }
 
     // Makes a call that is no set up on a pool with a damaged cell.
-    fn refuse_damaged(&mut self, rt: &impl Print, turn: Turn) -> Result<(), AllocError> {
+    fn refuse_damaged(&mut self, rt: &impl Print, turn: Turn) {
         let kind = Kind::ALL[(turn.draw(14) % 16 + 1) as usize];
         let asked = self.call_of(kind, turn);
         let drawn = turn.draw(13);
         let cell = self.cell_for(drawn);
-        let mut other = self.pool.clone()?;
-        if let Some(place) = other.get_mut(cell) {
-            *place = damaged(*place, cell, drawn);
-        }
-        self.refuse(rt, other, asked, Refusal::Unsound, turn)?;
+        let old = self.pool.at(cell);
+        self.pool.put(cell, damaged(old, cell, drawn));
+        let _ = self.one(rt, asked, Some(Refusal::Unsound), turn);
+        self.pool.put(cell, old);
         count(&mut self.counts.damaged);
-        Ok(())
     }
 
     // Makes a call that is refused, by a length in one of two turns, by a damaged cell in the other.
-    pub fn refuse_one(&mut self, rt: &impl Print, turn: Turn) -> Result<(), AllocError> {
+    pub fn refuse_one(&mut self, rt: &impl Print, turn: Turn) {
         if turn.0 / 6 % 2 == 0 {
             self.refuse_length(rt, turn)
         } else {

@@ -2,20 +2,24 @@
 #![tactic(auto)]
 
 mod call;
+mod codes;
 mod counts;
 mod desk;
 mod draws;
 mod kind;
+mod lent;
 mod plainly;
 mod step;
+mod undo;
 
 use call::Call;
 use counts::{Counts, count};
-use draws::{Turn, draw};
+use draws::Turn;
 use kind::Kind;
+use lent::Lent;
 use plainly::Rows;
-use std::alloc::{AllocError, Global};
 use step::Desk;
+use undo::{Undo, Undos};
 
 // The lengths of pools.
 const LENGTHS: [u32; 9] = [8, 12, 16, 24, 64, 260, 1024, 4096, 16384];
@@ -30,41 +34,15 @@ const FRESH: u32 = 0;
 
 const RUN: u32 = 34;
 
-// What is to be taken back: a run, to the cells at its start, or a change by another one.
-#[derive(Drop)]
-enum Undo {
-    Start(Vec<u32>),
-    Back(Call),
-}
-
-// Cells that are filled with anything at all.
-fn litter(alloc: Global, n: u32) -> Result<Vec<u32>, AllocError> {
-    (0..n).map(|i| draw(i, 0)).collect(alloc)
-}
-
-// The cells of a fresh pool.
-fn fresh(alloc: Global, n: u32) -> Result<Vec<u32>, AllocError> {
-    let mut cells = Vec::from_slice(alloc, &[1, 0, 1, 0])?;
-    for slot in 1..n / 4 {
-        let link = if slot + 1 < n / 4 { slot + 1 } else { 0 };
-        cells.extend_from_slice(&[0, 0, u32::MAX, link])?;
-    }
-    Ok(cells)
-}
-
 impl Desk {
     // A turn: its call, and what is to be taken back of it. Every 128 turns a run starts.
-    fn turn(
-        &mut self,
-        rt: &impl Print,
-        turn: Turn,
-        undos: &mut Vec<(Turn, Undo)>,
-    ) -> Result<(), AllocError> {
+    fn turn(&mut self, rt: &impl Print, turn: Turn) {
         if turn.0 % 128 == 0 {
-            undos.push((turn, Undo::Start(self.pool.clone()?)))?;
+            let cells = self.pool.as_slice();
+            self.undos.push_start(turn, cells);
         }
         if turn.0 % 6 == 0 {
-            self.refuse_one(rt, turn)?;
+            self.refuse_one(rt, turn);
         }
         if turn.age() == 2304 && self.is_full() {
             count(&mut self.counts.filled);
@@ -73,54 +51,53 @@ impl Desk {
             count(&mut self.counts.emptied);
         }
         let asked = self.call_at(turn);
-        if let Some(back) = self.one(rt, asked, None, turn)? {
-            undos.push((turn, Undo::Back(back)))?;
+        if let Some(back) = self.one(rt, asked, None, turn) {
+            self.undos.push(turn, Undo::Back(back));
         }
-        Ok(())
     }
 
     // Takes back a change, or holds the pool's cells to those at the start of a run.
-    fn take_back(&mut self, rt: &impl Print, turn: Turn, step: Undo) -> Result<(), AllocError> {
+    fn take_back(&mut self, rt: &impl Print, turn: Turn, step: Undo) {
         match step {
             Undo::Back(asked) => {
-                self.one(rt, asked, None, turn)?;
+                let _ = self.one(rt, asked, None, turn);
                 count(&mut self.counts.changes);
             }
-            Undo::Start(cells) => {
-                let is_back = self.pool == cells;
+            Undo::Start => {
+                let cells = self.pool.as_slice();
+                let is_back = self.undos.pop_start(cells);
                 self.tell(rt, RUN, is_back, turn);
                 count(&mut self.counts.runs);
             }
         }
-        Ok(())
     }
 
     // Turns, and then their changes are taken back, last first.
-    fn run(&mut self, rt: &impl Print, first: u32, n: u32) -> Result<(), AllocError> {
-        let mut undos = Vec::new(self.alloc);
+    fn run(&mut self, rt: &impl Print, first: u32, n: u32) {
         for i in 0..n {
-            self.turn(rt, Turn(first.wrapping_add(i)), &mut undos)?;
+            self.turn(rt, Turn(first.wrapping_add(i)));
         }
-        for (turn, step) in undos.into_iter().rev() {
-            self.take_back(rt, turn, step)?;
+        for _ in 0..self.undos.len() {
+            if let Some((turn, step)) = self.undos.pop() {
+                self.take_back(rt, turn, step);
+            }
         }
-        Ok(())
     }
 
     // A pool is set up over anything, and checked; and turns.
-    fn live(&mut self, rt: &impl Print, n: u32, first: u32, turns: u32) -> Result<(), AllocError> {
+    fn live(&mut self, rt: &impl Print, n: u32, first: u32, turns: u32) {
         let turn = Turn(first);
-        self.pool = litter(self.alloc, n)?;
-        self.one(rt, Call::new(Kind::SetUp, 0, 0, 0), None, turn)?;
-        let is_fresh = self.pool == fresh(self.alloc, n)?;
+        self.pool.litter(n);
+        let _ = self.one(rt, Call::new(Kind::SetUp, 0, 0, 0), None, turn);
+        let is_fresh = self.pool.is_fresh(n);
         self.tell(rt, FRESH, is_fresh, turn);
-        self.one(rt, Call::new(Kind::Check, 0, 0, 0), None, turn)?;
-        self.run(rt, first, turns)
+        let _ = self.one(rt, Call::new(Kind::Check, 0, 0, 0), None, turn);
+        self.run(rt, first, turns);
     }
 }
 
 // Pools of each length, and smaller ones again, have 4,224 turns in eleven phases; the longest has two turns.
-fn lives(rt: &impl Print, desk: &mut Desk) -> Result<(), AllocError> {
+fn lives(rt: &impl Print, desk: &mut Desk) {
     for i in 0..27 {
         let n = if i < 9 {
             LENGTHS[i as usize]
@@ -128,20 +105,17 @@ fn lives(rt: &impl Print, desk: &mut Desk) -> Result<(), AllocError> {
             LENGTHS[(i % 6) as usize]
         };
         let turns = if i == 8 { FEW } else { TURNS };
-        desk.live(rt, n, (i + 1) << 13, turns)?;
+        desk.live(rt, n, (i + 1) << 13, turns);
     }
-    Ok(())
 }
 
-fn main(rt: HostRuntime) -> Result<(), AllocError> {
-    let alloc = rt.alloc();
+fn main(rt: HostRuntime) {
     let mut desk = Desk {
-        alloc,
-        pool: Vec::new(alloc),
-        rows: Rows::new(alloc)?,
+        pool: Lent::new(),
+        rows: Rows::new(),
+        undos: Undos::new(),
         counts: Counts::new(),
     };
-    lives(&rt, &mut desk)?;
+    lives(&rt, &mut desk);
     desk.counts.print(&rt);
-    Ok(())
 }

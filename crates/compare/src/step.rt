@@ -1,11 +1,13 @@
 // One call on the pool, and the same on the plain list.
 use crate::call::Call;
+use crate::codes::{DONE, MORE, NOTHING, code_of};
 use crate::counts::{Counts, count};
 use crate::draws::Turn;
 use crate::kind::Kind;
+use crate::lent::{Lent, MOST};
 use crate::plainly::Rows;
+use crate::undo::Undos;
 use kinds::{Answer, Five, Limits, Pair, Refusal};
-use std::alloc::{AllocError, Global};
 
 // What the cells for a listing hold before it, and the bytes for a book.
 const UNWRITTEN: u32 = 2779096485;
@@ -17,12 +19,12 @@ const CELLS: usize = 2048;
 
 const BYTES: usize = 8192;
 
-// The pool, the list of the pairs that it is to hold, and the counts.
+// The pool, the list of the pairs that it is to hold, what is to be taken back, and the counts.
 #[derive(Drop)]
 pub struct Desk {
-    pub alloc: Global,
-    pub pool: Vec<u32>,
+    pub pool: Lent,
     pub rows: Rows,
+    pub undos: Undos,
     pub counts: Counts,
 }
 
@@ -43,7 +45,8 @@ impl Room {
 #[derive(Clone, Copy, PartialEq, Eq)]
 struct Told {
     code: u32,
-    pair: Pair,
+    x: u32,
+    y: u32,
     shown: usize,
 }
 
@@ -51,7 +54,8 @@ impl Told {
     fn code(code: u32) -> Told {
         Told {
             code,
-            pair: Pair::default(),
+            x: 0,
+            y: 0,
             shown: 0,
         }
     }
@@ -61,10 +65,8 @@ impl From<Five> for Told {
     fn from(five: Five) -> Told {
         Told {
             code: five.code,
-            pair: Pair {
-                x: five.x,
-                y: five.y,
-            },
+            x: five.x,
+            y: five.y,
             shown: five.count as usize,
         }
     }
@@ -78,7 +80,8 @@ struct Made {
 }
 
 // Makes a call on a pool, with cells for a listing and bytes for a book.
-fn answer(pool: &mut [u32], out: &mut [u32], bytes: &mut [u8], asked: Call) -> Five {
+fn answer(lent: &mut Lent, out: &mut [u32], bytes: &mut [u8], asked: Call) -> Five {
+    let pool = &mut lent.cells[..lent.len.min(MOST)];
     let Call { kind, a, b, c } = asked;
     let p = Pair { x: a, y: b };
     let q = Limits {
@@ -120,7 +123,7 @@ fn lent_for(need: usize, drawn: u32) -> usize {
 
 // Whether a question that is not refused visits the root, if there is one, no slot twice, and keeps to its bound; and no other call visits.
 fn is_bounded(visits: usize, kind: Kind, told: Told, stored: usize) -> bool {
-    let is_answered = matches!(told.code, Five::DONE | Five::NOTHING | Five::MORE);
+    let is_answered = matches!(told.code, DONE | NOTHING | MORE);
     let bound = if kind.is_question() && is_answered {
         told.shown.wrapping_mul(2).wrapping_add(127)
     } else {
@@ -133,7 +136,7 @@ fn is_bounded(visits: usize, kind: Kind, told: Told, stored: usize) -> bool {
 impl Desk {
     // Whether each slot but the first one holds a pair.
     pub fn is_full(&self) -> bool {
-        (self.pool.len() / 4).saturating_sub(1) <= self.rows.len()
+        (self.pool.len / 4).saturating_sub(1) <= self.rows.len()
     }
 
     // The room that a call needs, and is lent.
@@ -165,7 +168,7 @@ impl Desk {
                 None => Ok(()),
             },
             Kind::Delete | Kind::Close => match there {
-                Some(there) if there == row => Ok(()),
+                Some(there) if there.y == row.y => Ok(()),
                 Some(_) => Err(Refusal::Other),
                 None => Err(Refusal::Missing),
             },
@@ -176,26 +179,24 @@ impl Desk {
     // What a call is to tell that neither the pool nor its own numbers refuse.
     fn told(&self, asked: Call, room: Room) -> Told {
         match asked.kind {
-            Kind::Check => Told::code(Five::DONE),
-            Kind::Save if room.is_short() => Told::code(Refusal::Short.into()),
-            Kind::Save => Told::code(Five::DONE),
-            kind if kind.is_change() => Told::code(kinds::code_of(self.change(asked))),
+            Kind::Check => Told::code(DONE),
+            Kind::Save if room.is_short() => Told::code(code_of(Err(Refusal::Short))),
+            Kind::Save => Told::code(DONE),
+            kind if kind.is_change() => Told::code(code_of(self.change(asked))),
             kind if kind.is_listing() => Told {
-                code: if room.is_short() {
-                    Five::MORE
-                } else {
-                    Five::DONE
-                },
-                pair: Pair::default(),
+                code: if room.is_short() { MORE } else { DONE },
+                x: 0,
+                y: 0,
                 shown: room.need.min(room.lent) / 2,
             },
             _ => match self.rows.best(asked) {
                 Some(row) => Told {
-                    code: Five::DONE,
-                    pair: row,
+                    code: DONE,
+                    x: row.x,
+                    y: row.y,
                     shown: 0,
                 },
-                None => Told::code(Five::NOTHING),
+                None => Told::code(NOTHING),
             },
         }
     }
@@ -209,38 +210,29 @@ impl Desk {
     }
 
     // A save, and whether the bytes are the list's book, and beyond it as they were.
-    fn saved(&mut self, asked: Call, room: Room, told: Told) -> Result<Made, AllocError> {
-        let mut bytes = vec![in self.alloc; BLANK; BYTES]?;
+    fn saved(&mut self, asked: Call, room: Room, told: Told) -> Made {
+        let mut bytes = [BLANK; BYTES];
         let lent = room.lent.min(BYTES);
         let five = answer(&mut self.pool, &mut [], &mut bytes[..lent], asked);
-        let mut book = if told.code == Five::DONE {
-            self.rows.book(self.alloc)?
-        } else {
-            Vec::new(self.alloc)
-        };
-        book.resize(BYTES, BLANK)?;
-        Ok(Made {
-            five,
-            is_written: bytes == book,
-        })
+        let is_done = told.code == DONE;
+        let written = if is_done { room.need.min(BYTES) } else { 0 };
+        let (book, rest) = bytes.split_at(written);
+        let is_written = is_done == self.rows.is_book(book)
+            && rest.iter().all(|byte| *byte == BLANK);
+        Made { five, is_written }
     }
 
     // A listing, and whether the cells hold as many pairs as it is to show, and beyond them what they held.
-    fn listed(&mut self, asked: Call, room: Room, told: Told) -> Result<Made, AllocError> {
-        let mut out = vec![in self.alloc; UNWRITTEN; CELLS]?;
+    fn listed(&mut self, asked: Call, room: Room, told: Told) -> Made {
+        let mut out = [UNWRITTEN; CELLS];
         let lent = room.lent.min(CELLS);
         let five = answer(&mut self.pool, &mut out[..lent], &mut [], asked);
         let shown = told.shown.wrapping_mul(2).min(CELLS);
         let (shown, rest) = out.split_at(shown);
-        let pairs = shown
-            .as_chunks::<2>()
-            .0
-            .iter()
-            .map(|[x, y]| Pair { x: *x, y: *y });
-        let pairs = pairs.collect(self.alloc)?;
+        let (pairs, _) = shown.as_chunks::<2>();
         let is_written = self.rows.lists(asked, pairs)
             && rest.iter().all(|cell| *cell == UNWRITTEN);
-        Ok(Made { five, is_written })
+        Made { five, is_written }
     }
 
     // Says by a number and the turn that a thing is not right, and counts it.
@@ -260,33 +252,33 @@ impl Desk {
         asked: Call,
         health: Option<Refusal>,
         turn: Turn,
-    ) -> Result<Option<Call>, AllocError> {
+    ) -> Option<Call> {
         let kind = asked.kind;
         let room = self.room(asked, turn);
         let told = match health.or(asked.refusal()) {
-            Some(refusal) => Told::code(refusal.into()),
+            Some(refusal) => Told::code(code_of(Err(refusal))),
             None => self.told(asked, room),
         };
-        let before = self.pool.clone()?;
+        self.pool.keep();
         let made = match kind {
-            Kind::Save => self.saved(asked, room, told)?,
-            kind if kind.is_listing() => self.listed(asked, room, told)?,
+            Kind::Save => self.saved(asked, room, told),
+            kind if kind.is_listing() => self.listed(asked, room, told),
             _ => self.made(asked),
         };
-        let is_done = kind.is_change() && told.code == Five::DONE;
+        let is_done = kind.is_change() && told.code == DONE;
         let back = if is_done { asked.reversed() } else { None };
         if back.is_some() {
-            self.rows.update(asked.row())?;
+            self.rows.update(asked.row());
         }
         let is_left = if is_done {
-            self.slot(0)[3] as usize == self.rows.len()
+            self.pool.slot(0)[3] as usize == self.rows.len()
         } else {
-            self.pool == before
+            self.pool.is_kept()
         };
         let is_told = Told::from(made.five) == told
             && is_bounded(made.five.visits as usize, kind, told, self.rows.len());
         self.counts.call(kind, made.five.code);
         self.tell(rt, kind as u32, is_told && is_left && made.is_written, turn);
-        Ok(back)
+        back
     }
 }

@@ -5,6 +5,7 @@ ghost use Rattle.std.specs.Prelude.{◌≡◌};
 ghost use Rattle.pools.specs.Cells.{stored};
 ghost use Rattle.pools.specs.Laid.{inserted};
 ghost use Rattle.plain.specs.Plain.{has_x};
+ghost use Rattle.pools.specs.Sound.{Sound};
 ghost use Rattle.down.specs.Down.{Enters, Going, Carried};
 
 use cells::SoundPool;
@@ -31,11 +32,12 @@ fn carry(pool: &mut [u32], place: Place, p: Pair)
 }
 
 // Whether x is stored, with whatever y.
-pub fn is_stored(pool: SoundPool<'_>, x: u32) -> bool
-    ensures { result ≡ has_x x (stored pool.entry.cells.now) }
+pub fn is_stored(pool: &[u32], x: u32) -> bool
+    requires { Sound pool.now }
+    ensures { result ≡ has_x x (stored pool.now) }
 {
-    let end = way::find(pool, x);
-    pool.cells[end.cell] != 0
+    let end = way::find(SoundPool { cells: pool }, x);
+    pool[end.cell] != 0
 }
 
 // Stores a pair whose x is new, in a pool with a free slot: it goes down from the root.

@@ -44,8 +44,13 @@ pub refused_numbers : (k : Refusal) → five (refused k) ≡ record { code = num
 unfolding five numbers_of
 refused_numbers k = refl
 
--- law: what ends with a code alone has no number beside it
-pub ended_numbers : (r : Result (Unit {0}) Refusal) → five (ended r) ≡ record { code = (five (ended r)).code; x = 0; y = 0; count = 0; visits = 0 }
+-- the code of what ends with a code alone: 0 where it is done, or the refusal's number
+abbrev pub ended_code : Result (Unit {0}) Refusal → ℕ
+ended_code (Ok done) = 0
+ended_code (Err k) = number_of k
+
+-- law: what ends with a code alone has that code, and no number beside it
+pub ended_numbers : (r : Result (Unit {0}) Refusal) → five (ended r) ≡ record { code = ended_code r; x = 0; y = 0; count = 0; visits = 0 }
 unfolding five numbers_of
 ended_numbers (Ok done) = refl
 ended_numbers (Err k) = refl

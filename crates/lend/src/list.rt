@@ -8,11 +8,16 @@ use cells::SoundPool;
 use kinds::{Limits, Listing, Refusal};
 use strip::{Slot, Slots};
 
-// Lists the pairs in the limits, and says so.
+// Lists the pairs in the limits, and says so: how many, whether there are more, and the visits.
 fn list(pool: SoundPool<'_>, q: Limits, out: &mut [u32]) -> Listing
     ensures { Gives (listing_asked pool.entry.cells.now q out.old).made (listed (Ok result)) pool.entry.cells.now out.new }
 {
-    listing::list(pool, out, q)
+    let l = listing::list(pool, out, q);
+    Listing {
+        count: l.count,
+        more: l.more,
+        visits: l.visits,
+    }
 }
 
 // The pairs in the limits, two cells each from the slice's start, as many as it has room for.

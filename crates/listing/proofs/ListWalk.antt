@@ -26,6 +26,17 @@ use Rattle.questions.proofs.Finding.{not_lt}
 use Rattle.questions.proofs.Places.{slot_here, asked_right}
 use Rattle.listing.proofs.Filling.{Fills, fills, fills_own, fills_ask, own_visits, same_room, still_fits, stopped, goes_on, left_over, lists_stopped, lists_then, lists_nothing}
 
+-- at the place h, after n matches and v visits, with the cells o: what is listed from there completes what is listed from the place s
+pub record Completes (c : List ℕ) (q : Limits) (s : Place) (os : List ℕ) (ns vs : ℕ) (h : Place) (o : List ℕ) (n v : ℕ) : Type 0 where
+  pub one : 1 ≤ h.slot
+  pub walkable : Walkable c h v
+  pub fits : n ≤ room_of o
+  pub below : h.levels ≤ s.levels
+  pub onward : (o' : List ℕ) (n' v' : ℕ) → Lists o n v (listing q h.stripe (tree_here c h) (room_of o - n)) o' n' v' → Lists os ns vs (listing q s.stripe (tree_here c s) (room_of os - ns)) o' n' v'
+
+pub at_start : (c : List ℕ) (q : Limits) (s : Place) (o : List ℕ) (n v : ℕ) → 1 ≤ s.slot → Walkable c s v → n ≤ room_of o → Completes c q s o n v s o n v
+at_start c q s o n v one w fit = record { one = one; walkable = w; fits = fit; below = omega arith; onward = λ o' n' v' X. X }
+
 -- a slot
 module _ (c : List ℕ) (p : Place) (q : Limits) (o : List ℕ) (n v : ℕ) (one : 1 ≤ p.slot) (w : Walkable c p v) (fit : n ≤ room_of o) {y : Pair} (ey : y ≡ pair_at c p.slot) where
   abbrev W : ListWalked
@@ -88,11 +99,7 @@ module _ (c : List ℕ) (p : Place) (q : Limits) (o : List ℕ) (n v : ℕ) (one
       over_left : room_of o1 - n1 ≡ room_of o - n - length M.pairs
       over_left = left_over o n M o1 n1 fit fills_m put_own (omega arith)
 
-      module _ {l : Place} {go : Bool} (el : l ≡ left_place c p) (eg : go ≡ ltb q.x0 (middle p.stripe)) {o2 : List ℕ} {n2 v2 : ℕ}
-          (X : Lists o1 n1 (v + 1) (cond go (listing q l.stripe (tree_here c l) (room_of o1 - n1)) (list_walked [] false 0)) o2 n2 v2) where
-        left_here : Lists o1 n1 (v + 1) (L (room_of o1 - n1)) o2 n2 v2
-        left_here = rw (el, eg) at X
-
+      module _ {o2 : List ℕ} {n2 v2 : ℕ} (left_here : Lists o1 n1 (v + 1) (L (room_of o1 - n1)) o2 n2 v2) where
         lists_left : Lists o1 n1 (v + 1) A o2 n2 v2
         lists_left = rw over_left at left_here
 
@@ -137,6 +144,17 @@ module _ (c : List ℕ) (p : Place) (q : Limits) (o : List ℕ) (n v : ℕ) (one
               let Z : Lists o2 n2 v2 B o3 n3 v3 = rw over_right at Y' in
               rw goes_below (lists_then o n v M (and_then A B) o1 n1 (v + 1) lists_own on_left o3 n3 v3
               (lists_then o1 n1 (v + 1) A B o2 n2 v2 lists_left on_right o3 n3 v3 Z))
+
+          -- the right son is there and asked: what is listed from it completes the slot's listing, and so the whole one
+          pub goes_right : {s : Place} {os : List ℕ} {ns vs : ℕ} {r : Place} {b : Bool} → Completes c q s os ns vs p o n v → r ≡ right_place c p → b ≡ ltb q.x1 (middle p.stripe)
+              → b ≡ false → (r.slot ≡ 0 → ⊥) → Completes c q s os ns vs r o2 n2 v2
+          goes_right {r = r} {b = b} G er eb asked ne = record {
+            one = omega (arith, ne);
+            walkable = right_asked er;
+            fits = list_left_fits;
+            below = let z = G.below in rw er (omega arith);
+            onward = λ o' n' v' X. G.onward o' n' v' (list_both er eb (rw asked X));
+          }
 
 -- a son's place
 module _ (c : List ℕ) (p : Place) (q : Limits) (o : List ℕ) (n v room : ℕ) (go : Bool) where

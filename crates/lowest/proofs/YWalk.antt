@@ -6,8 +6,9 @@ use mathlib.Core.Path.{◌≡◌, refl, sym, ◌∙◌}
 use mathlib.Core.Bool.{Bool, true, false, not}
 use mathlib.Core.List.{List}
 use native.Mathlib.Omega.{arith}
-use lib.Dec.{ltb, leb}
-use borrow.Author.Tests.{lt-ltb, le-ltb}
+use lib.Dec.{ltb, leb, eqb}
+use Rattle.std.proofs.lemmas.Bool.Decides.{nat_tests}
+use borrow.Author.Tests.{lt-ltb, le-ltb, eqb-true}
 use Rattle.kinds.specs.declared.Pair.{Pair}
 use Rattle.kinds.specs.declared.Walked.{Walked}
 use Rattle.pools.specs.Cells.{pair_at}
@@ -16,13 +17,15 @@ use Rattle.stripes.specs.Stripe.{Stripe, middle, left_part, right_part}
 use Rattle.trees.specs.Tree.{none, size}
 use Rattle.walks.specs.Walks.{seen, ask, smallest_y}
 use Rattle.plain.proofs.Closest.{closest_nothing}
+use Rattle.kinds.proofs.Tests.{on}
 use Rattle.walks.proofs.Sizes.{smallest_y_size}
 use Rattle.places.specs.declared.Place.{Place}
 use Rattle.places.specs.Places.{tree_here, left_place, right_place}
 use Rattle.questions.specs.Walking.{found_at, IsLink, Walkable, Made}
 use Rattle.questions.proofs.Finding.{not_lt, found_none, found_some}
 use Rattle.questions.proofs.Places.{some, there, slot_here, asked_right}
-use Rattle.lowest.specs.Sons.{lower_y, Lower, lower_of, sons_asked}
+use Rattle.questions.proofs.Sons.{none_there, unasked}
+use Rattle.lowest.specs.Sons.{asks, lower_y, Lower, lower_of, sons_asked}
 
 -- of two findings
 module _ (c : List ℕ) (l r : ℕ) where
@@ -49,6 +52,22 @@ joined c v a b l r n vl vr A B N =
 pub smallest_y_empty : (x0 x1 : ℕ) (at : Stripe) → smallest_y x0 x1 at none ≡ seen None 0
 unfolding smallest_y
 smallest_y_empty x0 x1 at = refl
+
+-- whether a son is asked, and what it then gives
+module _ (s : ℕ) (go : Bool) {b : Bool} (eb : b ≡ asks s go) where
+  pub son_there : b ≡ true → 1 ≤ s
+  unfolding asks
+  son_there t = grind (arith, nat_tests)
+
+  pub son_asked : {c : List ℕ} {v n v' : ℕ} {w : Walked} → b ≡ true → Made c v w n v' → Made c v (ask go w) n v'
+  unfolding asks
+  son_asked t M = let g : go ≡ true = grind (arith, nat_tests) in rw g M
+
+  pub son_unasked : (p : Place) (x0 x1 : ℕ) {c : List ℕ} {v : ℕ} → s ≡ p.slot → b ≡ false → Made c v (ask go (smallest_y x0 x1 p.stripe (tree_here c p))) 0 v
+  unfolding asks
+  son_unasked p x0 x1 {c = c} {v = v} es f = on (eqb s 0)
+      (λ e. none_there (smallest_y x0 x1 p.stripe) (smallest_y_empty x0 x1 p.stripe) c p v go (sym es ∙ eqb-true s 0 e))
+      (λ e. let g : go ≡ false = grind (arith, nat_tests) in unasked (smallest_y x0 x1 p.stripe) (smallest_y_empty x0 x1 p.stripe) c p v go g)
 
 -- a slot
 module _ (c : List ℕ) (p : Place) (v : ℕ) (one : 1 ≤ p.slot) (o : Walkable c p v) (x0 x1 : ℕ) where

@@ -1,5 +1,5 @@
 -- How the code asks a slot's two sons for the smallest y, and which of their answers it keeps.
-use Rattle.std.specs.Prelude.{ℕ, ◌+◌, ◌-◌, ◌≤◌, ◌≡◌, Bool, List, ltb, leb}
+use Rattle.std.specs.Prelude.{ℕ, ◌+◌, ◌-◌, ◌≤◌, ◌≡◌, Bool, false, cond, List, eqb, ltb, leb}
 use Rattle.kinds.specs.declared.Pair.{Pair}
 use Rattle.kinds.specs.declared.Walked.{Walked}
 use Rattle.plain.specs.Plain.{closest}
@@ -8,6 +8,10 @@ use Rattle.places.specs.declared.Place.{Place}
 use Rattle.places.specs.Places.{tree_here, left_place, right_place}
 use Rattle.walks.specs.Walks.{seen, ask, smallest_y}
 use Rattle.questions.specs.Walking.{found_at, IsLink, Walkable}
+
+-- a son is asked if it is there and lies on a side that is asked
+unfoldable pub asks : ℕ → Bool → Bool
+asks s go = cond (eqb s 0) false go
 
 -- the first has the smaller y
 abbrev pub lower_y : Pair → Pair → Bool

@@ -10,8 +10,8 @@ use std::marker::Model;
 // The part of the x that a slot owns: from its lower end up to its upper end, which is excluded.
 #[derive(Clone, Copy)]
 pub struct Stripe {
-    lower: u64,
-    upper: u64,
+    pub lower: u64,
+    pub upper: u64,
 }
 
 impl Model for Stripe {
@@ -29,9 +29,9 @@ impl Model for Stripe {
 }
 
 impl Stripe {
-    const ROOT_LOWER: u64 = 0;
+    pub const ROOT_LOWER: u64 = 0;
 
-    const ROOT_UPPER: u64 = 4294967296;
+    pub const ROOT_UPPER: u64 = 4294967296;
 
     // The levels below the root.
     pub const LEVELS: u32 = 32;

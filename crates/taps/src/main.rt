@@ -2,7 +2,7 @@
 // It writes its pool by its own calls alone, so that it is sound from set up on, and no line checks it.
 #![tactic(auto)]
 
-ghost use Rattle.std.specs.Prelude.{◌≤◌, length, IfOk};
+ghost use Rattle.std.specs.Prelude.{◌≡◌, ◌+◌, ◌≤◌, length, IfOk, IfSome};
 ghost use Rattle.pools.specs.Sound.{Sound};
 ghost use Rattle.taps.specs.declared.TheConstants.{PIECE};
 
@@ -37,7 +37,9 @@ impl Desk {
     }
 
     // A line is answered behind what is held, if there is room.
-    fn answer_behind(&mut self, line: &[u8]) -> Option<usize> {
+    fn answer_behind(&mut self, line: &[u8]) -> Option<usize>
+        ensures { IfSome result (λ told. self.new.held ≡ self.old.held + told) }
+    {
         let told = lines::answer_checked(
             &mut self.cells,
             &mut self.room,

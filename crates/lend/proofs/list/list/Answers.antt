@@ -5,4 +5,4 @@ use Rattle.lend.proofs.list.list.Goals as goal
 
 pub returns : goal.returns
 returns c =
-    listing_gives (sound_held c.args.pool.sound) _ _ _ c.list.ensures
+    listing_gives (sound_held c.args.pool.sound) _ _ _ c.list-l.ensures
